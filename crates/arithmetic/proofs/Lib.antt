@@ -1,0 +1,7 @@
+pub mod Products
+pub mod Quotients
+pub mod Words
+pub mod Sums
+pub mod Tables
+pub mod Weights
+pub mod FixedPoints
