@@ -3,5 +3,4 @@ pub mod Quotients
 pub mod Words
 pub mod Sums
 pub mod Tables
-pub mod Weights
 pub mod FixedPoints

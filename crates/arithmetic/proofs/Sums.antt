@@ -15,7 +15,7 @@ sum-suc p a n = refl
 
 pub sum-one : (p : ℕ → ℕ) (a : ℕ) → sum p a 1 ≡ p a
 unfolding sum
-sum-one p a = ap p (add-zero a)
+sum-one p a = zero-add (p (a + 0)) ∙ ap p (add-zero a)
 
 -- a loop's step, from i to i + 1
 pub sum-step : (p : ℕ → ℕ) (a i : ℕ) → a ≤ i → sum p a (i + 1 - a) ≡ sum p a (i - a) + p i

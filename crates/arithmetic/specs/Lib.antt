@@ -4,3 +4,4 @@ pub mod FixedPoint
 pub mod Sum
 pub mod Table
 pub mod Weight
+pub mod Matte
