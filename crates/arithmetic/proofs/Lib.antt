@@ -1,6 +1,8 @@
+pub mod Orders
 pub mod Products
 pub mod Quotients
 pub mod Words
 pub mod Sums
 pub mod Tables
+pub mod Weights
 pub mod FixedPoints
