@@ -1,0 +1,5 @@
+pub mod Column
+pub mod Output
+pub mod WorkRows
+pub mod Closed
+pub mod Mean
