@@ -1,0 +1,2 @@
+pub mod WorkRows
+pub mod Held
