@@ -1,18 +1,17 @@
 -- One row's value of column j against the exact weighted sum of its pixels (MATHEMATICS 1): above it by at most a half of m, below it by at most
 -- 1026/2048 of m where the width shrinks, and equal to it elsewhere. Hence its range, and that no difference in it is cut off. Why: value and exact sum
 -- have the same terms but one, the carry, which is the last pixel's rest rounded (v + X(j-1) = E + carry × m). Assumes nothing.
-use Prim.Native.Nat.{ℕ, zero, suc, _+_, _*_, _-_, _/_, _%_, _^_, _≤_, _<_}
-use mathlib.Core.Path.{_≡_, refl, sym, _∙_, ap}
+use Prim.Native.Nat.{ℕ, zero, suc, _+_, _*_, _-_, _^_, _≤_, _<_}
+use mathlib.Core.Path.{_≡_, sym, _∙_, ap}
 use mathlib.Core.Bool.{cond}
 use mathlib.Core.Logic.{_⊎_, inl, inr}
 use native.Mathlib.Omega.{arith}
-use native.Mathlib.Nat.{mul-le-mul, mul-le-mul-left, mul-le-mul-right, lt-of-mul-lt-mul-right, le-of-mul-le-mul-right, eq-or-lt-of-le, zero-mul, mul-zero}
+use native.Mathlib.Nat.{mul-le-mul, mul-le-mul-right, lt-of-mul-lt-mul-right, eq-or-lt-of-le, zero-mul, mul-zero}
 use lib.Dec.{leb}
 use borrow.Author.Tests.{le-leb, lt-leb}
 use Rattle.arithmetic.specs.FixedPoint.{MULT, FRAC}
-use Rattle.arithmetic.specs.Quotient.{ceil}
 use Rattle.arithmetic.specs.Sum.{sum}
-use Rattle.arithmetic.specs.Weight.{span, shrinkWeight, growWeight, weight}
+use Rattle.arithmetic.specs.Weight.{span, shrinkWeight, weight}
 use Rattle.arithmetic.proofs.Orders.{le-or-lt}
 use Rattle.arithmetic.proofs.Quotients.{ceil-low, ceil-high, ceil-le}
 use Rattle.arithmetic.proofs.FixedPoints.{mean-high, mean-low}

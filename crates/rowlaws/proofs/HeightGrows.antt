@@ -1,11 +1,11 @@
 -- A row goes out, the height grows (MATHEMATICS 3): the byte against the exact mean, for any values v c of the crop rows that are close to exact sums e c.
 -- Why: the two crop rows that are blended are the two that the exact mean weighs, and with the same weights; the rounding of the blend and of the byte
 -- is at most a half each. Assumes nothing.
-use Prim.Native.Nat.{ℕ, zero, suc, _+_, _*_, _-_, _/_, _%_, _^_, _≤_, _<_}
+use Prim.Native.Nat.{ℕ, suc, _+_, _*_, _-_, _^_, _≤_, _<_}
 use mathlib.Core.Path.{_≡_, refl, sym, _∙_, ap}
 use mathlib.Core.Logic.{_⊎_, inl, inr}
 use native.Mathlib.Omega.{arith}
-use native.Mathlib.Nat.{mul-le-mul, mul-le-mul-left, mul-le-mul-right, lt-of-mul-lt-mul-right, le-of-mul-le-mul-right, eq-or-lt-of-le, zero-mul}
+use native.Mathlib.Nat.{mul-le-mul-left, mul-le-mul-right, lt-of-mul-lt-mul-right, eq-or-lt-of-le}
 use borrow.Author.Tests.{lt-leb}
 use Rattle.arithmetic.specs.FixedPoint.{MULT, FRAC}
 use Rattle.arithmetic.specs.Sum.{sum}
@@ -15,7 +15,7 @@ use Rattle.arithmetic.proofs.Sums.{sum-cong, sum-weighted-le}
 use Rattle.arithmetic.proofs.Weights.{weight-grow, grow-sum, grow-sum-last, grow-total}
 use Rattle.schedule.specs.Schedule.{needed}
 use Rattle.schedule.proofs.Needed.{up-low, up-high, needed-some, needed-le}
-use Rattle.rows.specs.Output.{restUp, blend, byteUp, clamp}
+use Rattle.rows.specs.Output.{restUp, blend, byteUp}
 use Rattle.rows.specs.Closed.{newest, scaledByte}
 use Rattle.rows.specs.Mean.{Near}
 use Rattle.rowlaws.proofs.Close.{Close, close-weighted, near-clamp}

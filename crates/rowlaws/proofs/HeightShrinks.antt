@@ -1,14 +1,12 @@
 -- A row goes out, the height does not grow (MATHEMATICS 2): the byte against the exact mean, for any values v c of the crop rows that are close to exact sums e c.
 -- Why: what f leaves out of one output row it puts into the next, so g × A + e(Y-1) = Σ weight × V + e Y with small e; the premise keeps the sums below
 -- 2^31, so that nothing wraps. Assumes nothing.
-use Prim.Native.Nat.{ℕ, zero, suc, _+_, _*_, _-_, _/_, _%_, _^_, _≤_, _<_, min}
-use mathlib.Core.Path.{_≡_, refl, sym, _∙_, ap}
-use mathlib.Core.Bool.{cond}
+use Prim.Native.Nat.{ℕ, zero, suc, _+_, _*_, _-_, _/_, _%_, _^_, _≤_, _<_}
+use mathlib.Core.Path.{_≡_, sym, _∙_, ap}
 use mathlib.Core.Logic.{_≢_, _⊎_, inl, inr}
 use native.Mathlib.Omega.{arith}
 use native.Mathlib.Nat.{mul-le-mul, mul-le-mul-left, mul-le-mul-right, lt-of-mul-lt-mul-right, le-of-mul-le-mul-right, eq-or-lt-of-le, zero-mul, mul-zero}
-use lib.Dec.{leb, eqb}
-use borrow.Author.Tests.{le-leb, lt-leb, eq-eqb, ne-eqb}
+use borrow.Author.Tests.{le-leb, eq-eqb, ne-eqb}
 use Rattle.arithmetic.specs.FixedPoint.{MULT, FLOOR, FRAC}
 use Rattle.arithmetic.specs.Sum.{sum}
 use Rattle.arithmetic.specs.Word.{wrapSub, wrapMul}
@@ -82,37 +80,36 @@ shared h g v W zero pos low small most within = omega arith
 shared h g v W (suc y) pos low small most within =
     share-rest W g (restDown h g (needed h g y) y) (newest v (needed h g y)) (omega (arith, down-low h g y pos low, down-high h g y pos low)) small (newest-most v (256 * W) h (needed h g y) most (needed-le h g y (omega arith) within))
 
--- ---- output row y: b crop rows came before, b' by its end; f before, f' taken off
-module _ (h g y : ℕ) (v : ℕ → ℕ) (W : ℕ) (pos : 0 < g) (low : g ≤ h) (within : y < g) where
-  abbrev pub weighed : ℕ
-  weighed = sum (λ c. weight h g y c * v c) 0 h
+-- ---- output row y: the weighted sum of the values, the first half before f comes off and not wrapped, and d × V before and after
+abbrev pub weighed : ℕ → ℕ → (ℕ → ℕ) → ℕ → ℕ
+weighed h g v y = sum (λ c. weight h g y c * v c) 0 h
 
-  -- the first half before f comes off, not wrapped
-  abbrev pub whole : ℕ
-  whole = shareBefore h g v y + sum v (since h g y) (needed h g y - since h g y)
+abbrev pub whole : ℕ → ℕ → (ℕ → ℕ) → ℕ → ℕ
+whole h g v y = shareBefore h g v y + sum v (since h g y) (needed h g y - since h g y)
 
-  abbrev pub restBefore : ℕ
-  restBefore = (since h g y * g - y * h) * newest v (since h g y)
+abbrev pub restBefore : ℕ → ℕ → (ℕ → ℕ) → ℕ → ℕ
+restBefore h g v y = (since h g y * g - y * h) * newest v (since h g y)
 
-  abbrev pub restAfter : ℕ
-  restAfter = (needed h g y * g - suc y * h) * newest v (needed h g y)
+abbrev pub restAfter : ℕ → ℕ → (ℕ → ℕ) → ℕ → ℕ
+restAfter h g v y = (needed h g y * g - suc y * h) * newest v (needed h g y)
 
+module _ (h g : ℕ) (v : ℕ → ℕ) (y : ℕ) (pos : 0 < g) (low : g ≤ h) (within : y < g) where
   -- Σ weight × V + d × V(U-1) = d(Y-1) × V(U(Y-1)-1) + g × Σ V
-  pub weighed-sum : weighed + restAfter ≡ restBefore + g * sum v (since h g y) (needed h g y - since h g y)
+  pub weighed-sum : weighed h g v y + restAfter h g v y ≡ restBefore h g v y + g * sum v (since h g y) (needed h g y - since h g y)
   weighed-sum =
-      let same : weighed ≡ sum (λ c. shrinkWeight h g y c * v c) 0 h =
+      let same : weighed h g v y ≡ sum (λ c. shrinkWeight h g y c * v c) 0 h =
       sum-cong _ _ 0 h (λ c l u. ap (λ (w : ℕ). w * v c) (weight-shrink h g y c low)) in
       let s =
       shrink-sum v h g y (since h g y) (needed h g y) h (omega (arith, since-rise h g y pos low)) (needed-le h g y (omega arith) within) (since-low h g y pos low) (since-high h g y pos low) (down-low h g y pos low) (down-high h g y pos low) in
       rw (same, ← (rest-newest v g (since h g y) (y * h)), ← (rest-newest v g (needed h g y) (suc y * h))) s
 
-  pub weighed-most : (k : ℕ) → ((c : ℕ) → c < h → v c ≤ k) → weighed ≤ k * h
+  pub weighed-most : (k : ℕ) → ((c : ℕ) → c < h → v c ≤ k) → weighed h g v y ≤ k * h
   weighed-most k most =
       let t : sum (weight h g y) 0 h ≡ h = sum-cong _ _ 0 h (λ c l u. weight-shrink h g y c low) ∙ shrink-total h g y within in
       rw t at (sum-weighted-le (weight h g y) v k 0 h (λ c l u. most c (omega arith)))
 
   -- f is not above the first half
-  pub share-in-whole : shareBefore h g v (suc y) ≤ whole
+  pub share-in-whole : shareBefore h g v (suc y) ≤ whole h g v y
   unfolding shareBefore
   share-in-whole =
       let b : since h g y < needed h g y = since-rise h g y pos low in
@@ -120,19 +117,19 @@ module _ (h g y : ℕ) (v : ℕ → ℕ) (W : ℕ) (pos : 0 < g) (low : g ≤ h)
       sum-term v (since h g y) (needed h g y - since h g y) (needed h g y - 1) (omega arith) (omega arith) in
       omega (arith, share-le g (restDown h g (needed h g y) y) (newest v (needed h g y)), newest-at v (needed h g y) (omega arith))
 
-  module _ (small : g ≤ 16384) (most : (c : ℕ) → c < h → v c ≤ 256 * W) where
-    pub rest-before : Rest W g (shareBefore h g v y) restBefore
+  module _ (W : ℕ) (small : g ≤ 16384) (most : (c : ℕ) → c < h → v c ≤ 256 * W) where
+    pub rest-before : Rest W g (shareBefore h g v y) (restBefore h g v y)
     rest-before = shared h g v W y pos low small most (omega arith)
 
-    pub rest-after : Rest W g (shareBefore h g v (suc y)) restAfter
+    pub rest-after : Rest W g (shareBefore h g v (suc y)) (restAfter h g v y)
     unfolding since
     rest-after = shared h g v W (suc y) pos low small most within
 
     -- under the premise nothing wraps
-    pub whole-fits : W * h ≤ 4194304 * g → whole ≤ 2 ^ 31
+    pub whole-fits : W * h ≤ 4194304 * g → whole h g v y ≤ 2 ^ 31
     whole-fits premise =
         let d : needed h g y * g - suc y * h ≤ g = omega (arith, down-high h g y pos low) in
-        let r : restAfter ≤ g * (256 * W) =
+        let r : restAfter h g v y ≤ g * (256 * W) =
         mul-le-mul d (newest-most v (256 * W) h (needed h g y) most (needed-le h g y (omega arith) within)) in
         le-of-mul-le-mul-right {k = g} (go _ _ _ _ _ weighed-sum (rest-before .not-above) (weighed-most (256 * W) most) r) pos
       where
@@ -140,13 +137,13 @@ module _ (h g y : ℕ) (v : ℕ → ℕ) (W : ℕ) (pos : 0 < g) (low : g ≤ h)
         go w a b f s sum-is not-above hw ha = omega (arith, mul-le-mul-right (256 * W) low, premise)
 
     -- A, which is what is left once f came off, times g: near the weighted sum
-    pub left-high : (a : ℕ) → a + shareBefore h g v (suc y) ≡ whole → 1024 * (a * g) < 1024 * weighed + 1024 * g + W * g
+    pub left-high : (a : ℕ) → a + shareBefore h g v (suc y) ≡ whole h g v y → 1024 * (a * g) < 1024 * weighed h g v y + 1024 * g + W * g
     left-high a is = go _ _ _ _ _ _ weighed-sum is (rest-before .not-above) (rest-after .not-far)
       where
         go : (w x b f f' s : ℕ) → w + x ≡ b + g * s → a + f' ≡ f + s → f * g ≤ b → 1024 * x < 1024 * (f' * g) + 1024 * g + W * g → 1024 * (a * g) < 1024 * w + 1024 * g + W * g
         go w x b f f' s p q k l = omega (arith, times g q)
 
-    pub left-low : (a : ℕ) → a + shareBefore h g v (suc y) ≡ whole → 1024 * weighed < 1024 * (a * g) + 1024 * g + W * g
+    pub left-low : (a : ℕ) → a + shareBefore h g v (suc y) ≡ whole h g v y → 1024 * weighed h g v y < 1024 * (a * g) + 1024 * g + W * g
     left-low a is = go _ _ _ _ _ _ weighed-sum is (rest-before .not-far) (rest-after .not-above)
       where
         go : (w x b f f' s : ℕ) → w + x ≡ b + g * s → a + f' ≡ f + s → 1024 * b < 1024 * (f * g) + 1024 * g + W * g → f' * g ≤ x → 1024 * w < 1024 * (a * g) + 1024 * g + W * g
@@ -157,9 +154,9 @@ pub scaled-down : (W h g : ℕ) (v : ℕ → ℕ) (y : ℕ) → g ≤ h → scal
 unfolding scaledByte
 scaled-down W h g v y low = simp (le-leb g h low)
 
-pub heap-exact : (h g y : ℕ) (v : ℕ → ℕ) → shareBefore h g v y + sum v (since h g y) (needed h g y - since h g y) < 2 ^ 32 → heap h g v y (needed h g y) ≡ shareBefore h g v y + sum v (since h g y) (needed h g y - since h g y)
+pub heap-exact : (h g : ℕ) (v : ℕ → ℕ) (y : ℕ) → whole h g v y < 2 ^ 32 → heap h g v y (needed h g y) ≡ whole h g v y
 unfolding heap
-heap-exact h g y v fits = omega arith
+heap-exact h g v y fits = omega arith
 
 pub byte-whole : (q a f : ℕ) → q ≡ 2 ^ 32 → byteDown q a f ≡ a % 256
 unfolding byteDown
@@ -191,39 +188,39 @@ byte-near a g h W s S T slack pos low small high deep close = go (MULT a (g * 2 
 
 module _ (h g y : ℕ) (v e : ℕ → ℕ) (W s : ℕ) (pos : 0 < g) (low : g ≤ h) (within : y < g) (small : g ≤ 16384) (narrow : W ≤ 16384) (slack : s < W) (premise : W * h ≤ 4194304 * g) (near : (c : ℕ) → c < h → Close s (v c) (e c)) (bytes : (c : ℕ) → c < h → e c ≤ 255 * W) where
   abbrev S : ℕ
-  S = sum (λ c. weight h g y c * v c) 0 h
+  S = weighed h g v y
 
   abbrev T : ℕ
-  T = sum (λ c. weight h g y c * e c) 0 h
+  T = weighed h g e y
 
   most : (c : ℕ) → c < h → v c ≤ 256 * W
   most c l = let n = near c l in omega (arith, bytes c l)
 
-  fits : whole h g y v W pos low within ≤ 2 ^ 31
-  fits = whole-fits h g y v W pos low within small most premise
+  fits : whole h g v y ≤ 2 ^ 31
+  fits = whole-fits h g v y pos low within W small most premise
 
   close : Close (s * h) S T
   close = rw (sum-cong _ _ 0 h (λ c l u. weight-shrink h g y c low) ∙ shrink-total h g y within) at (close-weighted (weight h g y) v e s h near)
 
   -- the first half and what comes off it
   abbrev w : ℕ
-  w = shareBefore h g v y + sum v (since h g y) (needed h g y - since h g y)
+  w = whole h g v y
 
   abbrev f : ℕ
   f = shareBefore h g v (suc y)
 
   f-in : f ≤ w
-  f-in = share-in-whole h g y v W pos low within
+  f-in = share-in-whole h g v y pos low within
 
   most-T : T ≤ 255 * (W * h)
-  most-T = let t = weighed-most h g y e W pos low within (255 * W) bytes in omega arith
+  most-T = let t = weighed-most h g e y pos low within (255 * W) bytes in omega arith
 
   byte : Near (MULT (w - f) (ratio W h g)) T (W * h)
   unfolding ratio
   byte =
       let left : w - f + f ≡ w = omega (arith, f-in) in
-      let high = left-high h g y v W pos low within small most (w - f) left in
-      let deep = left-low h g y v W pos low within small most (w - f) left in
+      let high = left-high h g v y pos low within W small most (w - f) left in
+      let deep = left-low h g v y pos low within W small most (w - f) left in
       let a : w - f ≤ 2 ^ 30 = go (w - f) S T (mul-le-mul-right g narrow) high (close .above) most-T (mul-le-mul-right h slack) in
       byte-near (w - f) g h W s S T slack (omega arith) low a high deep close
     where
@@ -237,9 +234,9 @@ module _ (h g y : ℕ) (v e : ℕ → ℕ) (W s : ℕ) (pos : 0 < g) (low : g �
       omega (arith, times y equal, since-low h g y pos low, rest-none g (since h g y) y (omega (arith, times y equal, since-low h g y pos low)) (omega (arith, times y equal, since-high h g y pos low))) in
       let after : needed h g y * g - suc y * h ≡ 0 =
       omega (arith, times y equal, down-low h g y pos low, rest-none g (needed h g y) (suc y) (omega (arith, times y equal, down-low h g y pos low)) (omega (arith, times y equal, down-high h g y pos low))) in
-      let b0 : restBefore h g y v W pos low within ≡ 0 = ap (λ (t : ℕ). t * newest v (since h g y)) before ∙ zero-mul (newest v (since h g y)) in
-      let a0 : restAfter h g y v W pos low within ≡ 0 = ap (λ (t : ℕ). t * newest v (needed h g y)) after ∙ zero-mul (newest v (needed h g y)) in
-      exactly _ _ _ _ (shareBefore h g v y) (sum v (since h g y) (needed h g y - since h g y)) (weighed-sum h g y v W pos low within) a0 b0 (rest-before h g y v W pos low within small most .not-above) close most-T
+      let b0 : restBefore h g v y ≡ 0 = ap (λ (t : ℕ). t * newest v (since h g y)) before ∙ zero-mul (newest v (since h g y)) in
+      let a0 : restAfter h g v y ≡ 0 = ap (λ (t : ℕ). t * newest v (needed h g y)) after ∙ zero-mul (newest v (needed h g y)) in
+      exactly _ _ _ _ (shareBefore h g v y) (sum v (since h g y) (needed h g y - since h g y)) (weighed-sum h g v y pos low within) a0 b0 (rest-before h g v y pos low within W small most .not-above) close most-T
     where
       exactly : (x z a b k t : ℕ) → x + a ≡ b + g * t → a ≡ 0 → b ≡ 0 → k * g ≤ b → Close (s * h) x z → z ≤ 255 * (W * h) → Near ((k + t) % 256) z (W * h)
       exactly x z a b k t q a0 b0 kb c m =
@@ -252,7 +249,7 @@ module _ (h g y : ℕ) (v e : ℕ → ℕ) (W s : ℕ) (pos : 0 < g) (low : g �
 
   pub distance-down : Near (scaledByte W h g v y) (sum (λ c. weight h g y c * e c) 0 h) (W * h)
   distance-down =
-      rw (scaled-down W h g v y low, heap-exact h g y v (omega (arith, fits))) (by (le-or-lt (ratio W h g) (2 ^ 32)))
+      rw (scaled-down W h g v y low, heap-exact h g v y (omega (arith, fits))) (by (le-or-lt (ratio W h g) (2 ^ 32)))
     where
       part : ratio W h g ≢ 2 ^ 32 → Near (byteDown (ratio W h g) w f) T (W * h)
       part ne = rw (byte-part (ratio W h g) w f ne, wrapSub-exact w f f-in (omega (arith, fits))) (near-clamp (MULT (w - f) (ratio W h g)) T (W * h) most-T byte)

@@ -1,6 +1,6 @@
 -- The crop rows that an output row does not need weigh nothing in its exact mean (MATHEMATICS 5): the mean over all h crop rows is one over the
 -- rows needed, which were accepted before the row was made. Why: crop row U Y starts where output row Y ends. Assumes nothing.
-use Prim.Native.Nat.{ℕ, zero, suc, _+_, _*_, _-_, _≤_, _<_}
+use Prim.Native.Nat.{ℕ, suc, _+_, _*_, _-_, _≤_, _<_}
 use mathlib.Core.Path.{_≡_, _∙_, ap}
 use mathlib.Core.Logic.{_⊎_, inl, inr}
 use native.Mathlib.Omega.{arith}
