@@ -5,42 +5,24 @@ use mathlib.Core.Logic.{_⊎_, inl, inr}
 use native.Mathlib.Omega.{arith}
 use native.Mathlib.Nat.{mul-le-mul-left, mul-le-mul-right, lt-of-mul-lt-mul-right, le-refl, le-of-lt, le-dest}
 use lib.Dec.{leb, eqb}
-use borrow.Author.Tests.{le-leb, lt-leb}
-use Rattle.arithmetic.specs.Quotient.{ceil}
 use Rattle.arithmetic.specs.FixedPoint.{MULT, FLOOR, FRAC}
 use Rattle.arithmetic.specs.Sum.{sum}
 use Rattle.arithmetic.specs.Weight.{growWeight}
 use Rattle.arithmetic.proofs.Orders.{le-or-lt}
 use Rattle.arithmetic.proofs.Products.{cross}
-use Rattle.arithmetic.proofs.Quotients.{ceil-low, ceil-high, ceil-le}
 use Rattle.arithmetic.proofs.Sums.{sum-suc, sum-mono}
 use Rattle.arithmetic.proofs.FixedPoints.{MULT-mono}
 use Rattle.rows.specs.Column.{start, over, last, columnSum, carry, shrinkValue, growValue, value}
+use Rattle.rowlaws.proofs.Columns.{value-shrink, value-grow, start-step, start-within, over-small}
 
 -- ---- the value of a column
-
--- where column j starts and ends: at least one pixel, all of them inside the row, the last one reaching over by less than a column's width
-module _ (n m j : ℕ) (some : 0 < m) (shrinks : m ≤ n) (within : j < m) where
-  start-inside : start n m (suc j) ≤ n
-  unfolding start
-  start-inside = ceil-le m some (omega (arith, mul-le-mul-right n within))
-
-  start-rises : start n m j < start n m (suc j)
-  unfolding start
-  start-rises =
-      lt-of-mul-lt-mul-right m
-      (omega (arith, ceil-high (j * n) m some, ceil-low (suc j * n) m some))
-
-  over-small : over n m j < m
-  unfolding over start
-  over-small = omega (arith, ceil-high (suc j * n) m some)
 
 -- the first carry is 0; the others are monotone since MULT is
 carry-mono : (p p' : ℕ → ℕ) (n m j : ℕ) → 0 < m → m ≤ n → j < m → ((i : ℕ) → i < n → p i ≤ p' i) → carry p n m j ≤ carry p' n m j
 unfolding carry last
 carry-mono p p' n m zero some shrinks within le = le-refl 0
 carry-mono p p' n m (suc j) some shrinks within le =
-    let inside = start-inside n m j some shrinks (omega arith) in
+    let inside = start-within n m j (omega arith) in
     MULT-mono (mul-le-mul-right (over n m j) (le (start n m (suc j) - 1) (omega arith))) (le-refl (FRAC 1 m))
 
 -- (c + s + l) × m - l × r is (c + s) × m + l × (m - r)
@@ -51,8 +33,8 @@ left-over-mono c c' s s' l l' m r small hc hs hl =
 shrink-mono : (p p' : ℕ → ℕ) (n m j : ℕ) → 0 < m → m ≤ n → j < m → ((i : ℕ) → i < n → p i ≤ p' i) → shrinkValue p n m j ≤ shrinkValue p' n m j
 unfolding shrinkValue columnSum last
 shrink-mono p p' n m j some shrinks within le =
-    let (k, e) = le-dest (start-rises n m j some shrinks within) in
-    go k (start n m j) (start n m (suc j)) e (start-inside n m j some shrinks within)
+    let (k, e) = le-dest (start-step n m j some shrinks) in
+    go k (start n m j) (start n m (suc j)) e (start-within n m j within)
   where
     go : (k a b : ℕ) → suc a + k ≡ b → b ≤ n → (carry p n m j + sum p a (b - a)) * m - p (b - 1) * over n m j ≤ (carry p' n m j + sum p' a (b - a)) * m - p' (b - 1) * over n m j
     go k a b e inside =
@@ -60,7 +42,7 @@ shrink-mono p p' n m j some shrinks within le =
         let end : b - 1 ≡ a + k = omega arith in
         rw (count, end, sum-suc p a k, sum-suc p' a k)
         (left-over-mono (carry p n m j) (carry p' n m j) (sum p a k) (sum p' a k) (p (a + k)) (p' (a + k)) m (over n m j)
-        (le-of-lt (over-small n m j some shrinks within))
+        (le-of-lt (over-small n m j some))
         (carry-mono p p' n m j some shrinks within le)
         (sum-mono p p' a k (λ i l u. le i (omega arith)))
         (le (a + k) (omega arith)))
@@ -69,15 +51,6 @@ grow-mono : (p p' : ℕ → ℕ) (n m j : ℕ) → ((i : ℕ) → i < n → p i 
 unfolding growValue
 grow-mono p p' n m j le =
     sum-mono (λ i. growWeight n m j i * p i) (λ i. growWeight n m j i * p' i) 0 n (λ i l u. mul-le-mul-left (growWeight n m j i) (le i (omega arith)))
-
--- which formula is meant
-pub value-shrink : (p : ℕ → ℕ) (n m j : ℕ) → m ≤ n → value p n m j ≡ shrinkValue p n m j
-unfolding value
-value-shrink p n m j h = simp (le-leb m n h)
-
-pub value-grow : (p : ℕ → ℕ) (n m j : ℕ) → n < m → value p n m j ≡ growValue p n m j
-unfolding value
-value-grow p n m j h = simp (lt-leb m n h)
 
 pub value-mono : (p p' : ℕ → ℕ) (n m j : ℕ) → j < m → ((i : ℕ) → i < n → p i ≤ p' i) → value p n m j ≤ value p' n m j
 value-mono p p' n m j within le = by (le-or-lt m n)

@@ -3,51 +3,20 @@
 use Prim.Native.Nat.{ℕ, zero, suc, _+_, _*_, _-_, _%_, _^_, _≤_, _<_}
 use mathlib.Core.Path.{_≡_, refl, sym, _∙_, ap}
 use native.Mathlib.Omega.{arith}
-use native.Mathlib.Nat.{mul-le-mul-left, mul-le-mul-right, le-of-mul-le-mul-right, lt-of-mul-lt-mul-right, mod-eq-of-lt, le-dest, le-trans, le-of-lt}
-use borrow.Author.Tests.{le-leb}
-use Rattle.arithmetic.specs.Quotient.{ceil}
+use native.Mathlib.Nat.{mul-le-mul-left, mul-le-mul-right, le-of-mul-le-mul-right, mod-eq-of-lt, le-dest, le-trans, le-of-lt}
 use Rattle.arithmetic.specs.Sum.{sum}
-use Rattle.arithmetic.proofs.Quotients.{ceil-low, ceil-high, ceil-le}
 use Rattle.arithmetic.proofs.Sums.{sum-most}
 use Rattle.schedule.specs.Schedule.{needed, since}
+use Rattle.schedule.proofs.Needed.{needed-le, down-low, down-high, since-rise}
 use Rattle.rows.specs.Output.{restDown, share}
 use Rattle.rows.specs.Closed.{newest, shareBefore, heap}
 use Rattle.rowlaws.proofs.Shares.{share-most}
 
--- ---- the crop rows of output row y, g ≤ h
-needed-down : (h g y : ℕ) → g ≤ h → needed h g y ≡ ceil (suc y * h) g
-unfolding needed
-needed-down h g y l = simp (le-leb g h l)
-
-module _ (h g : ℕ) (shrinks : g ≤ h) where
-  pub needed-low : (y : ℕ) → 0 < g → suc y * h ≤ needed h g y * g
-  needed-low y some = rw (needed-down h g y shrinks) (ceil-low (suc y * h) g some)
-
-  pub needed-high : (y : ℕ) → 0 < g → needed h g y * g < suc y * h + g
-  needed-high y some = rw (needed-down h g y shrinks) (ceil-high (suc y * h) g some)
-
-  pub needed-inside : (y : ℕ) → y < g → needed h g y ≤ h
-  needed-inside y within =
-      rw (needed-down h g y shrinks) (ceil-le {x = suc y * h} {k = h} g (omega arith) (omega (arith, mul-le-mul-right h within)))
-
-  pub since-low : (y : ℕ) → 0 < g → y * h ≤ since h g y * g
-  unfolding since
-  since-low zero some = omega arith
-  since-low (suc y) some = needed-low y some
-
-  pub since-high : (y : ℕ) → 0 < g → since h g y * g < y * h + g
-  unfolding since
-  since-high zero some = omega arith
-  since-high (suc y) some = needed-high y some
-
-  pub since-inside : (y : ℕ) → y < g → since h g y ≤ h
-  unfolding since
-  since-inside zero within = omega arith
-  since-inside (suc y) within = needed-inside y (omega arith)
-
-  -- each output row's last crop row is new
-  pub since-rises : (y : ℕ) → 0 < g → since h g y < needed h g y
-  since-rises y some = lt-of-mul-lt-mul-right g (omega (arith, since-high y some, needed-low y some))
+-- ---- where the crop rows of output row y begin, g ≤ h: d of the row before is at least 0 and below g
+pub since-low : (h g y : ℕ) → 0 < g → g ≤ h → y * h ≤ since h g y * g
+unfolding since
+since-low h g zero some shrinks = omega arith
+since-low h g (suc y) some shrinks = down-low h g y some shrinks
 
 -- the newest value is one of them
 pub newest-most : (v : ℕ → ℕ) (k h u : ℕ) → u ≤ h → ((c : ℕ) → c < h → v c ≤ k) → newest v u ≤ k
@@ -61,8 +30,8 @@ unfolding shareBefore since
 before-most h g k v zero shrinks within most = omega arith
 before-most h g k v (suc y) shrinks within most =
     le-trans
-    (share-most g (restDown h g (needed h g y) y) (newest v (needed h g y)) (omega (arith, needed-high h g shrinks y (omega arith))))
-    (mul-le-mul-right (restDown h g (needed h g y) y) (newest-most v k h (needed h g y) (needed-inside h g shrinks y (omega arith)) most))
+    (share-most g (restDown h g (needed h g y) y) (newest v (needed h g y)) (omega (arith, down-high h g y (omega arith) shrinks)))
+    (mul-le-mul-right (restDown h g (needed h g y) y) (newest-most v k h (needed h g y) (needed-le h g y (omega arith) (omega arith)) most))
 
 -- ---- the step: f and the sum s of the crop rows from a to b
 room-step : (f s a b g h y k : ℕ) → 0 < g → g ≤ h → y * h ≤ a * g → a ≤ b → b * g < suc y * h + g → k * h ≤ 2 ^ 30 * g → f * g ≤ k * (a * g - y * h) → s ≤ (b - a) * k → f + s ≤ 2 ^ 31
@@ -83,10 +52,10 @@ room-step f s a b g h y k some shrinks low order high premise hf hs =
 -- ---- the first half before f comes off
 pub heap-room : (sp h g : ℕ) (v : ℕ → ℕ) (y : ℕ) → g ≤ h → y < g → sp * h ≤ 4194304 * g → ((c : ℕ) → c < h → v c ≤ 256 * sp) → shareBefore h g v y + sum v (since h g y) (needed h g y - since h g y) ≤ 2 ^ 31
 heap-room sp h g v y shrinks within premise most =
-    let rises = since-rises h g shrinks y (omega arith) in
-    let inside = needed-inside h g shrinks y within in
+    let rises = since-rise h g y (omega arith) shrinks in
+    let inside = needed-le h g y (omega arith) within in
     room-step (shareBefore h g v y) (sum v (since h g y) (needed h g y - since h g y)) (since h g y) (needed h g y) g h y (256 * sp) (omega arith) shrinks
-    (since-low h g shrinks y (omega arith)) (le-of-lt rises) (needed-high h g shrinks y (omega arith)) (omega arith)
+    (since-low h g y (omega arith) shrinks) (le-of-lt rises) (down-high h g y (omega arith) shrinks) (omega arith)
     (before-most h g (256 * sp) v y shrinks within most)
     (sum-most v (256 * sp) (since h g y) (needed h g y - since h g y) (λ c l u. most c (omega arith)))
 
