@@ -1,11 +1,11 @@
 -- Lighter in, no darker out (MATHEMATICS 6): the value of a column and the scaled byte are monotone in the pixels. Assumes nothing.
-use Prim.Native.Nat.{ℕ, zero, suc, _+_, _*_, _-_, _/_, _%_, _^_, _≤_, _<_, min}
-use mathlib.Core.Path.{_≡_, refl, sym, _∙_, ap, ap₂}
+use Prim.Native.Nat.{ℕ, zero, suc, _+_, _*_, _-_, _%_, _^_, _≤_, _<_}
+use mathlib.Core.Path.{_≡_, refl, sym, _∙_, ap}
 use mathlib.Core.Bool.{Bool, true, false, cond}
 use mathlib.Core.Logic.{_⊎_, inl, inr}
 use native.Mathlib.Omega.{arith}
-use native.Mathlib.Nat.{mul-le-mul, mul-le-mul-left, mul-le-mul-right, le-of-mul-le-mul-right, le-refl, le-of-lt, le-dest, le-trans}
-use lib.Dec.{leb, eqb}
+use native.Mathlib.Nat.{mul-le-mul-left, mul-le-mul-right, le-of-mul-le-mul-right, le-refl, le-of-lt, le-dest}
+use lib.Dec.{eqb}
 use borrow.Author.Tests.{eqb-true, eqb-false, eq-eqb, ne-eqb, le-leb, lt-leb}
 use Rattle.arithmetic.specs.Word.{wrapSub}
 use Rattle.arithmetic.specs.FixedPoint.{MULT, FRAC}
@@ -245,3 +245,27 @@ scaled-mono n m h g p p' j y wide small high column row premise le bytes = by (l
     by : (g ≤ h) ⊎ (h < g) → scaledByte (span n m) h g v y ≤ scaledByte (span n m) h g v' y
     by (inl s) = byte-mono-down (span n m) h g v v' y (span-some n m wide) s row (premise s) rises most
     by (inr s) = byte-mono-up (span n m) h g v v' y high s row rises
+
+-- ---- it is a byte, whatever the sizes
+pub byteDown-byte : (q first f : ℕ) → byteDown q first f ≤ 255
+unfolding byteDown
+byteDown-byte q first f = by (eqb q (2 ^ 32))
+  where
+    by : (t : Bool) → cond t (first % 256) (clamp (MULT (wrapSub first f) q)) ≤ 255
+    by true = omega arith
+    by false = omega arith
+
+pub byteUp-byte : (sp x : ℕ) → byteUp sp x ≤ 255
+unfolding byteUp
+byteUp-byte sp x = omega arith
+
+pub scaled-byte : (n m h g : ℕ) (p : ℕ → ℕ → ℕ) (j y : ℕ) → scaled n m h g p j y ≤ 255
+unfolding scaled
+scaled-byte n m h g p j y = by (le-or-lt g h)
+  where
+    v : ℕ → ℕ
+    v c = value (p c) n m j
+
+    by : (g ≤ h) ⊎ (h < g) → scaledByte (span n m) h g v y ≤ 255
+    by (inl s) = rw (scaled-down (span n m) h g v y s) (byteDown-byte (ratio (span n m) h g) (heap h g v y (needed h g y)) (shareBefore h g v (suc y)))
+    by (inr s) = rw (scaled-up (span n m) h g v y s) (byteUp-byte (span n m) (blend g (restUp h g (needed h g y) y) (newest v (needed h g y)) (newest v (needed h g y - 1))))

@@ -1,14 +1,14 @@
 -- Nothing wraps under the premise (MATHEMATICS 2): where span × h is at most 2^22 × g, all that the first half ever holds, before f comes off, is at
 -- most 2^31. Why: g times it is at most the weights of one output row and of one crop row, h + g, times the greatest value, 256 × span. Assumes nothing.
-use Prim.Native.Nat.{ℕ, zero, suc, _+_, _*_, _-_, _%_, _^_, _≤_, _<_}
-use mathlib.Core.Path.{_≡_, refl, sym, _∙_, ap}
+use Prim.Native.Nat.{ℕ, zero, suc, _+_, _*_, _-_, _^_, _≤_, _<_}
+use mathlib.Core.Path.{_≡_, sym, ap}
 use native.Mathlib.Omega.{arith}
 use native.Mathlib.Nat.{mul-le-mul-left, mul-le-mul-right, le-of-mul-le-mul-right, mod-eq-of-lt, le-dest, le-trans, le-of-lt}
 use Rattle.arithmetic.specs.Sum.{sum}
 use Rattle.arithmetic.proofs.Sums.{sum-most}
 use Rattle.schedule.specs.Schedule.{needed, since}
 use Rattle.schedule.proofs.Needed.{needed-le, down-low, down-high, since-rise}
-use Rattle.rows.specs.Output.{restDown, share}
+use Rattle.rows.specs.Output.{restDown}
 use Rattle.rows.specs.Closed.{newest, shareBefore, heap}
 use Rattle.rowlaws.proofs.Shares.{share-most}
 

@@ -1,10 +1,10 @@
 -- f, what a row that goes out leaves to the next (document 01, "A row goes out", g ≤ h), without its case d = 0: it is at most the newest value and
 -- at most that value's part d / g; it is monotone, and so is what it leaves over. Assumes nothing.
 use Prim.Native.Nat.{ℕ, zero, suc, _+_, _*_, _%_, _^_, _≤_, _<_}
-use mathlib.Core.Path.{_≡_, refl, sym, _∙_, ap}
+use mathlib.Core.Path.{_≡_, _∙_, ap}
 use native.Mathlib.Omega.{arith}
-use native.Mathlib.Nat.{mul-zero, le-refl, mod-lt, le-of-lt}
-use borrow.Author.Tests.{eq-eqb, ne-eqb}
+use native.Mathlib.Nat.{mul-zero, le-refl}
+use borrow.Author.Tests.{ne-eqb}
 use Rattle.arithmetic.specs.Word.{wrapMul}
 use Rattle.arithmetic.specs.FixedPoint.{FLOOR, FRAC}
 use Rattle.arithmetic.proofs.FixedPoints.{FLOOR-mono, FLOOR-le, left-mono, share-high}
