@@ -18,6 +18,7 @@ use Rattle.arithmetic.proofs.Quotients.{ceil-low, ceil-high, ceil-le}
 use Rattle.arithmetic.proofs.FixedPoints.{mean-high, mean-low}
 use Rattle.arithmetic.proofs.Sums.{sum-cong, sum-term, sum-weighted-le}
 use Rattle.arithmetic.proofs.Weights.{span-shrink, span-grow, weight-shrink, weight-grow, shrink-sum, weight-total}
+use Rattle.rowlaws.proofs.Close.{Close}
 use Rattle.rows.specs.Column.{start, over, last, columnSum, carry, shrinkValue, growValue, value}
 
 -- the exact weighted sum of column j
@@ -212,11 +213,6 @@ span-most n m hn hm = by (le-or-lt m n)
     by : (m ≤ n) ⊎ (n < m) → span n m ≤ 16384
     by (inl h) = omega (arith, span-shrink n m h)
     by (inr h) = omega (arith, span-grow n m h)
-
--- the value is above the exact sum by at most s / 2, and below it by at most 1026 × s / 2048
-pub record Close (s value exact : ℕ) : Type 0 where
-  pub above : 2 * value ≤ 2 * exact + s
-  pub below : 2048 * exact ≤ 2048 * value + 1026 * s
 
 module _ (p : ℕ → ℕ) (n m j : ℕ) (pos : 0 < n) (small : m ≤ 16384) (within : j < m) (bytes : (i : ℕ) → i < n → p i ≤ 255) where
   pub value-close : Close (slack n m) (value p n m j) (exact p n m j)
