@@ -26,6 +26,7 @@ use Rattle.rows.specs.Output.{restDown, share, ratio, byteDown, clamp}
 use Rattle.rows.specs.Closed.{newest, shareBefore, heap, scaledByte}
 use Rattle.rows.specs.Mean.{Near}
 use Rattle.rowlaws.proofs.Close.{Close, close-weighted, near-clamp}
+use Rattle.rowlaws.proofs.Newest.{newest-at, newest-most}
 
 -- ---- f: the share of d / g of a value x, rounded down
 
@@ -68,17 +69,6 @@ rest-none g b t low high =
     let l : b * g < suc t * g = omega arith in
     let q : b ≤ t = (let r : b < suc t = lt-of-mul-lt-mul-right g l in omega arith) in
     omega (arith, mul-le-mul-right g q)
-
--- ---- the newest value
-pub newest-at : (v : ℕ → ℕ) (u : ℕ) → 0 < u → newest v u ≡ v (u - 1)
-unfolding newest
-newest-at v zero pos = absurd (omega arith)
-newest-at v (suc u) pos = ap v (let q : u ≡ suc u - 1 = omega arith in q)
-
-pub newest-most : (v : ℕ → ℕ) (k h u : ℕ) → ((c : ℕ) → c < h → v c ≤ k) → u ≤ h → newest v u ≤ k
-unfolding newest
-newest-most v k h zero most within = omega arith
-newest-most v k h (suc u) most within = most u within
 
 -- with no row there is no rest
 pub rest-newest : (v : ℕ → ℕ) (g b t : ℕ) → (b * g - t) * v (b - 1) ≡ (b * g - t) * newest v b
