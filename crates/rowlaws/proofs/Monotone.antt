@@ -1,30 +1,30 @@
--- Lighter in, no darker out (MATHEMATICS 6): the value of a column and the scaled byte are monotone in the pixels. Assumes nothing.
+-- Lighter in, no darker out (MATHEMATICS 6): the value of a column and the scaled byte are monotone in the pixels. Why: MULT, FLOOR and the sums are; a
+-- column's last pixel counts m - r times, with r below m; f, which comes off, rises by no more than the newest value, which is new in every row; and
+-- under the premise nothing wraps. Assumes nothing.
 use Prim.Native.Nat.{ℕ, zero, suc, _+_, _*_, _-_, _%_, _^_, _≤_, _<_}
 use mathlib.Core.Path.{_≡_, refl, sym, _∙_, ap}
 use mathlib.Core.Bool.{Bool, true, false, cond}
 use mathlib.Core.Logic.{_⊎_, inl, inr}
 use native.Mathlib.Omega.{arith}
-use native.Mathlib.Nat.{mul-le-mul-left, mul-le-mul-right, le-of-mul-le-mul-right, le-refl, le-of-lt, le-dest}
+use native.Mathlib.Nat.{mul-le-mul-left, mul-le-mul-right, le-refl, le-of-lt, le-dest}
 use lib.Dec.{eqb}
-use borrow.Author.Tests.{eqb-true, eqb-false, eq-eqb, ne-eqb, le-leb, lt-leb}
-use Rattle.arithmetic.specs.Word.{wrapSub}
+use borrow.Author.Tests.{eqb-true, eqb-false, ne-eqb}
+use Rattle.arithmetic.specs.Word.{wrapSub, wrapMul}
 use Rattle.arithmetic.specs.FixedPoint.{MULT, FRAC}
 use Rattle.arithmetic.specs.Sum.{sum}
 use Rattle.arithmetic.specs.Weight.{span, growWeight}
 use Rattle.arithmetic.proofs.Orders.{le-or-lt}
 use Rattle.arithmetic.proofs.Products.{cross}
-use Rattle.arithmetic.proofs.Quotients.{div-low}
 use Rattle.arithmetic.proofs.Sums.{sum-suc, sum-one, sum-mono}
-use Rattle.arithmetic.proofs.FixedPoints.{MULT-mono}
-use Rattle.arithmetic.proofs.Weights.{span-shrink, span-grow}
+use Rattle.arithmetic.proofs.FixedPoints.{MULT-mono, FLOOR-mono, left-mono}
 use Rattle.schedule.specs.Schedule.{needed, since}
 use Rattle.schedule.proofs.Needed.{needed-le, needed-equal, since-rise}
 use Rattle.rows.specs.Column.{start, over, last, columnSum, carry, shrinkValue, growValue, value}
 use Rattle.rows.specs.Output.{clamp, restDown, share, ratio, byteDown, restUp, blend, byteUp}
 use Rattle.rows.specs.Closed.{newest, shareBefore, heap, scaledByte, scaled}
-use Rattle.rowlaws.proofs.Columns.{value-shrink, value-grow, start-step, start-within, over-small, value-range-511}
-use Rattle.rowlaws.proofs.Shares.{share-le, share-mono, share-left}
-use Rattle.rowlaws.proofs.Room.{heap-room, heap-exact}
+use Rattle.rowlaws.proofs.Columns.{value-shrink, value-grow, start-step, start-within, over-small, slack-small, value-range-511}
+use Rattle.rowlaws.proofs.HeightShrinks.{share-is, share-le, whole-fits, scaled-down, heap-exact, byte-whole, byte-part, ratio-whole}
+use Rattle.rowlaws.proofs.HeightGrows.{scaled-up}
 
 -- ---- the value of a column
 
@@ -72,14 +72,14 @@ value-mono p p' n m j within le = by (le-or-lt m n)
 
 -- ---- a row goes out, g ≤ h
 
--- the byte, which of its two formulas is meant
-pub byte-low : (q first f : ℕ) → q ≡ 2 ^ 32 → byteDown q first f ≡ first % 256
-unfolding byteDown
-byte-low q first f e = simp (eq-eqb q (2 ^ 32) e)
+-- f is monotone, and so is x - f: f rises by no more than x does
+share-mono : (g d : ℕ) {x x' : ℕ} → x ≤ x' → share g d x ≤ share g d x'
+share-mono g d {x} {x'} h =
+    rw (share-is g d x, share-is g d x') (FLOOR-mono h (le-refl (wrapMul (FRAC 1 g) d)))
 
-pub byte-rounded : (q first f : ℕ) → (q ≡ 2 ^ 32 → ⊥) → byteDown q first f ≡ clamp (MULT (wrapSub first f) q)
-unfolding byteDown
-byte-rounded q first f n = simp (ne-eqb q (2 ^ 32) n)
+share-left : (g d : ℕ) {x x' : ℕ} → x ≤ x' → share g d x' + x ≤ share g d x + x'
+share-left g d {x} {x'} h =
+    rw (share-is g d x, share-is g d x') (left-mono x x' (wrapMul (FRAC 1 g) d) (omega arith) h)
 
 -- monotone in what is left of the first half once f comes off; the low byte is, where the first half is a byte
 byteDown-mono : (q x x' f f' : ℕ) → f ≤ x → f' ≤ x' → x ≤ x' → x + f' ≤ x' + f → x' < 2 ^ 32 → (q ≡ 2 ^ 32 → x' ≤ 255) → byteDown q x f ≤ byteDown q x' f'
@@ -89,21 +89,13 @@ byteDown-mono q x x' f f' low low' le left room byte = by (eqb q (2 ^ 32)) refl
     by true e =
         let one = eqb-true q (2 ^ 32) e in
         let small = byte one in
-        rw (byte-low q x f one, byte-low q x' f' one) (omega arith)
+        rw (byte-whole q x f one, byte-whole q x' f' one) (omega arith)
     by false e =
         let other = eqb-false q (2 ^ 32) e in
         let less : wrapSub x f ≤ wrapSub x' f' = omega arith in
-        rw (byte-rounded q x f other, byte-rounded q x' f' other) (omega (arith, MULT-mono less (le-refl q)))
+        rw (byte-part q x f other, byte-part q x' f' other) (omega (arith, MULT-mono less (le-refl q)))
 
--- q is 2^32 only for g = h and span 1
-pub ratio-one : (sp h g : ℕ) → 0 < sp → 0 < h → g ≤ h → ratio sp h g ≡ 2 ^ 32 → (g ≡ h) × (sp ≡ 1)
-unfolding ratio
-ratio-one sp h g pos some shrinks e =
-    let low : 2 ^ 32 * (sp * h) ≤ g * 2 ^ 32 = rw e at (div-low (g * 2 ^ 32) (sp * h)) in
-    let most : sp * h ≤ 1 * h = omega arith in
-    (omega (arith, mul-le-mul-right h pos), omega (arith, le-of-mul-le-mul-right {k = h} most some))
-
--- there d = 0, every crop row makes a row, and the first half is the value of that crop row
+-- equal heights: d = 0, every crop row makes a row, and the first half is the value of that crop row
 since-equal : (h y : ℕ) → 0 < h → since h h y ≡ y
 unfolding since
 since-equal h zero some = refl
@@ -144,7 +136,7 @@ record Rises (x x' f f' : ℕ) : Type 0 where
 rises-step : (F F' s s' l l' f f' : ℕ) → F ≤ F' → s ≤ s' → l ≤ l' → f ≤ l → f' ≤ l' → f' + l ≤ f + l' → Rises (F + (s + l)) (F' + (s' + l')) f f'
 rises-step F F' s s' l l' f f' hF hs hl low low' left = omega arith
 
--- all that came in for row y, modulo nothing
+-- the first half before f comes off, not wrapped
 abbrev whole : ℕ → ℕ → (ℕ → ℕ) → ℕ → ℕ
 whole h g v y = shareBefore h g v y + sum v (since h g y) (needed h g y - since h g y)
 
@@ -165,30 +157,20 @@ module _ (h g : ℕ) (v v' : ℕ → ℕ) (y : ℕ) (shrinks : g ≤ h) (within 
           (sum-mono v v' a k (λ c l u. le c (omega arith)))
           newer (share-le g d (v (a + k))) (share-le g d (v' (a + k))) (share-left g d newer))
 
--- which formula is meant
-pub scaled-down : (sp h g : ℕ) (v : ℕ → ℕ) (y : ℕ) → g ≤ h → scaledByte sp h g v y ≡ byteDown (ratio sp h g) (heap h g v y (needed h g y)) (shareBefore h g v (suc y))
-unfolding scaledByte
-scaled-down sp h g v y shrinks = simp (le-leb g h shrinks)
-
-pub scaled-up : (sp h g : ℕ) (v : ℕ → ℕ) (y : ℕ) → h < g → scaledByte sp h g v y ≡ byteUp sp (blend g (restUp h g (needed h g y) y) (newest v (needed h g y)) (newest v (needed h g y - 1)))
-unfolding scaledByte
-scaled-up sp h g v y grows = simp (lt-leb g h grows)
-
 -- the byte of output row y is monotone in the values of the crop rows; of values up to 511 / 2 × span, which is 255 for span 1
-pub byte-mono-down : (sp h g : ℕ) (v v' : ℕ → ℕ) (y : ℕ) → 0 < sp → g ≤ h → y < g → sp * h ≤ 4194304 * g → ((c : ℕ) → c < h → v c ≤ v' c) → ((c : ℕ) → c < h → 2 * v' c ≤ 511 * sp) → scaledByte sp h g v y ≤ scaledByte sp h g v' y
-byte-mono-down sp h g v v' y pos shrinks within premise le most =
-    let most' : (c : ℕ) → c < h → v' c ≤ 256 * sp = λ c l. omega (arith, most c l) in
-    let less : (c : ℕ) → c < h → v c ≤ 256 * sp = λ c l. omega (arith, most c l, le c l) in
-    let r = first-rises h g v v' y shrinks within le in
-    rw (scaled-down sp h g v y shrinks, scaled-down sp h g v' y shrinks, heap-exact sp h g v y shrinks within premise less, heap-exact sp h g v' y shrinks within premise most')
-    (byteDown-mono (ratio sp h g) (whole h g v y) (whole h g v' y) (shareBefore h g v (suc y)) (shareBefore h g v' (suc y)) (r .low) (r .low') (r .le) (r .left)
-    (omega (arith, heap-room sp h g v' y shrinks within premise most'))
-    byte)
-  where
-    byte : ratio sp h g ≡ 2 ^ 32 → whole h g v' y ≤ 255
-    byte e =
-        let (same, one) = ratio-one sp h g pos (omega arith) shrinks e in
-        rw same (rw (heap-equal h v' y (omega arith)) (omega (arith, most y (omega arith))))
+module _ (sp h g : ℕ) (v v' : ℕ → ℕ) (y : ℕ) (pos : 0 < sp) (shrinks : g ≤ h) (small : g ≤ 16384) (within : y < g) (premise : sp * h ≤ 4194304 * g) (le : (c : ℕ) → c < h → v c ≤ v' c) (most : (c : ℕ) → c < h → 2 * v' c ≤ 511 * sp) where
+  -- q is 2^32 for span 1 and equal heights
+  byte-where-whole : ratio sp h g ≡ 2 ^ 32 → whole h g v' y ≤ 255
+  byte-where-whole e =
+      let (one, same) = ratio-whole sp h g pos (omega arith) shrinks e in
+      rw same (rw (heap-equal h v' y (omega arith)) (omega (arith, most y (omega arith))))
+
+  pub byte-mono-down : scaledByte sp h g v y ≤ scaledByte sp h g v' y
+  byte-mono-down =
+      let r = first-rises h g v v' y shrinks within le in
+      let fits : whole h g v' y ≤ 2 ^ 31 = whole-fits h g y v' sp (omega arith) shrinks within small (λ c l. omega (arith, most c l)) premise in
+      rw (scaled-down sp h g v y shrinks, scaled-down sp h g v' y shrinks, heap-exact h g y v (omega (arith, r .le)), heap-exact h g y v' (omega arith))
+      (byteDown-mono (ratio sp h g) (whole h g v y) (whole h g v' y) (shareBefore h g v (suc y)) (shareBefore h g v' (suc y)) (r .low) (r .low') (r .le) (r .left) (omega arith) byte-where-whole)
 
 -- ---- a row goes out, g > h
 
@@ -216,19 +198,11 @@ byte-mono-up sp h g v v' y some grows within le =
 
 -- ---- joined
 
--- the span is at least 1
-pub span-some : (n m : ℕ) → 0 < n → 0 < span n m
-span-some n m some = by (le-or-lt m n)
-  where
-    by : (m ≤ n) ⊎ (n < m) → 0 < span n m
-    by (inl h) = omega (arith, span-shrink n m h)
-    by (inr h) = omega (arith, span-grow n m h)
-
 -- lighter in, no darker out. The premise is the distance's where the height does not grow; where it grows there is none
-pub scaled-mono : (n m h g : ℕ) (p p' : ℕ → ℕ → ℕ) (j y : ℕ) → 0 < n → m ≤ 16384 → 0 < h → j < m → y < g → (g ≤ h → span n m * h ≤ 4194304 * g)
+pub scaled-mono : (n m h g : ℕ) (p p' : ℕ → ℕ → ℕ) (j y : ℕ) → 0 < n → m ≤ 16384 → 0 < h → g ≤ 16384 → j < m → y < g → (g ≤ h → span n m * h ≤ 4194304 * g)
     → ((c i : ℕ) → c < h → i < n → p c i ≤ p' c i) → ((c i : ℕ) → c < h → i < n → p' c i ≤ 255) → scaled n m h g p j y ≤ scaled n m h g p' j y
 unfolding scaled
-scaled-mono n m h g p p' j y wide small high column row premise le bytes = by (le-or-lt g h)
+scaled-mono n m h g p p' j y wide small high low column row premise le bytes = by (le-or-lt g h)
   where
     v : ℕ → ℕ
     v c = value (p c) n m j
@@ -243,7 +217,7 @@ scaled-mono n m h g p p' j y wide small high column row premise le bytes = by (l
     most c l = value-range-511 (p' c) n m j wide small column (λ i u. bytes c i l u)
 
     by : (g ≤ h) ⊎ (h < g) → scaledByte (span n m) h g v y ≤ scaledByte (span n m) h g v' y
-    by (inl s) = byte-mono-down (span n m) h g v v' y (span-some n m wide) s row (premise s) rises most
+    by (inl s) = byte-mono-down (span n m) h g v v' y (omega (arith, slack-small n m wide)) s low row (premise s) rises most
     by (inr s) = byte-mono-up (span n m) h g v v' y high s row rises
 
 -- ---- it is a byte, whatever the sizes

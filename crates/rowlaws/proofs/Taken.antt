@@ -70,12 +70,12 @@ pub matte-mono : (argb argb' k : ℕ) → k < 3 → laneOf argb 3 ≡ laneOf arg
 matte-mono argb argb' k l same le =
     rw (matte-colour argb k l, matte-colour argb' k l, same) (scale-mono (matteFactor (laneOf argb' 3)) le)
 
-module _ (n m h g j y : ℕ) (wide : 0 < n) (small : m ≤ 16384) (high : 0 < h) (column : j < m) (row : y < g) (premise : g ≤ h → span n m * h ≤ 4194304 * g) where
+module _ (n m h g j y : ℕ) (wide : 0 < n) (small : m ≤ 16384) (high : 0 < h) (low : g ≤ 16384) (column : j < m) (row : y < g) (premise : g ≤ h → span n m * h ≤ 4194304 * g) where
   module _ (p : ℕ → ℕ → ℕ → ℕ) (matted : Matted n h p) where
     -- no scaled colour is above its scaled alpha
     pub colour-under-alpha : (k : ℕ) → k < 3 → scaled n m h g (p k) j y ≤ scaled n m h g (p 3) j y
     colour-under-alpha k l =
-        scaled-mono n m h g (p k) (p 3) j y wide small high column row premise (matted .colour k l) (matted .alpha)
+        scaled-mono n m h g (p k) (p 3) j y wide small high low column row premise (matted .colour k l) (matted .alpha)
 
     pub taken-alpha : laneOf (takenPixel n m h g p j y) 3 ≡ scaled n m h g (p 3) j y
     taken-alpha =
@@ -97,12 +97,12 @@ module _ (n m h g j y : ℕ) (wide : 0 < n) (small : m ≤ 16384) (high : 0 < h)
   module _ (p p' : ℕ → ℕ → ℕ → ℕ) (matted : Matted n h p') (same : (c i : ℕ) → c < h → i < n → p 3 c i ≡ p' 3 c i) (le : (k : ℕ) → k < 3 → (c i : ℕ) → c < h → i < n → p k c i ≤ p' k c i) where
     same-alpha : scaled n m h g (p 3) j y ≡ scaled n m h g (p' 3) j y
     same-alpha =
-        let up = scaled-mono n m h g (p 3) (p' 3) j y wide small high column row premise (λ c i l u. omega (arith, same c i l u)) (matted .alpha) in
-        let down = scaled-mono n m h g (p' 3) (p 3) j y wide small high column row premise (λ c i l u. omega (arith, same c i l u)) (λ c i l u. omega (arith, same c i l u, matted .alpha c i l u)) in
+        let up = scaled-mono n m h g (p 3) (p' 3) j y wide small high low column row premise (λ c i l u. omega (arith, same c i l u)) (matted .alpha) in
+        let down = scaled-mono n m h g (p' 3) (p 3) j y wide small high low column row premise (λ c i l u. omega (arith, same c i l u)) (λ c i l u. omega (arith, same c i l u, matted .alpha c i l u)) in
         omega arith
 
     pub taken-mono : (k : ℕ) → k < 3 → laneOf (takenPixel n m h g p j y) k ≤ laneOf (takenPixel n m h g p' j y) k
     taken-mono =
         restored-mono (λ k. scaled n m h g (p k) j y) (λ k. scaled n m h g (p' k) j y) same-alpha (scaled-byte n m h g (p' 3) j y)
-        (λ k l. scaled-mono n m h g (p k) (p' k) j y wide small high column row premise (le k l) (λ c i a b. le-trans (matted .colour k l c i a b) (matted .alpha c i a b)))
+        (λ k l. scaled-mono n m h g (p k) (p' k) j y wide small high low column row premise (le k l) (λ c i a b. le-trans (matted .colour k l c i a b) (matted .alpha c i a b)))
         (colour-under-alpha p' matted)
