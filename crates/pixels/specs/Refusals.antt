@@ -49,6 +49,10 @@ abbrev pub sizedSize : Sized → Dimensions
 sizedSize (sized.Size size) = size
 sizedSize (sized.Refused why) = noSize
 
+-- the size of an answer with the number n
+abbrev pub sizeIf : ℕ → Dimensions → Dimensions
+sizeIf n size = cond (eqb n 0) size noSize
+
 abbrev pub flaggedNumber : Flagged → ℕ
 flaggedNumber (flagged.Flag flag) = 0
 flaggedNumber (flagged.Refused why) = number why
@@ -57,3 +61,7 @@ flaggedNumber (flagged.Refused why) = number why
 abbrev pub flaggedFlag : Flagged → Bool
 flaggedFlag (flagged.Flag flag) = flag
 flaggedFlag (flagged.Refused why) = false
+
+-- the flag of an answer with the number n
+abbrev pub flagIf : ℕ → Bool → Bool
+flagIf n flag = cond (eqb n 0) flag false
