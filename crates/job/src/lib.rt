@@ -1,6 +1,9 @@
 // The job (document 01, "The job"; the Rust: Rescaler and rescale_plane of geometry.rs): a record by value that every call takes and hands back.
 // The caller lends the rows, the work values and the output row. Fields are public: a record that meets the rules counts, whoever filled it.
-use pixels::{Dimensions, PixelLayout, Rect, Refusal};
+use pixels::Dimensions;
+use pixels::PixelLayout;
+use pixels::Rect;
+use pixels::Refusal;
 
 // What does not change in a job.
 pub struct Plan {

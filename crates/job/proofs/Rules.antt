@@ -1,0 +1,47 @@
+-- The record rules: the test and the facts say the same, both ways; the rules hold of a fresh job and are kept by an offer and a take. Assumes nothing.
+use Prim.Native.Nat.{ℕ, zero, suc, _+_, _-_, _≤_, _<_}
+use mathlib.Core.Path.{_≡_, refl, sym, _∙_}
+use mathlib.Core.Bool.{Bool, true, false, not, _||_, _&&_, or-true, true≢false}
+use native.Mathlib.Omega.{arith}
+use native.Mathlib.Nat.{le-trans}
+use lib.Dec.{eqb, leb}
+use borrow.Author.Tests.{le-leb, eq-eqb, ne-eqb, leb-true, eqb-true}
+use Rattle.pixels.specs.Sizes.{sizesNumber, Fits}
+use Rattle.pixels.proofs.Fitting.{fits-of, fits-good}
+use Rattle.pixels.proofs.Causes.{both-true}
+use Rattle.job.specs.declared.Job.{Job}
+use Rattle.job.specs.Record.{R, lawful, Rules}
+
+flag-of : (t : ℕ) (f : Bool) → (not f || not (eqb t 0)) ≡ true → t ≡ 0 → f ≡ false
+flag-of t false e z = refl
+flag-of t true e z = absurd (true≢false (sym (let q : not (eqb t 0) ≡ false = simp (eq-eqb t 0 z) in sym q ∙ e)))
+
+flag-good : (t : ℕ) (f : Bool) → (t ≡ 0 → f ≡ false) → (not f || not (eqb t 0)) ≡ true
+flag-good zero f h = simp (h refl)
+flag-good (suc t) f h = simp (ne-eqb (suc t) 0 (λ e. omega arith), or-true)
+
+pub rules-of : (j : Job) → lawful j ≡ true → Rules j
+unfolding lawful
+rules-of j e =
+    let s = both-true _ (not (j .flag) || not (eqb (j .taken) 0)) e in
+    let r = both-true _ (leb (j .taken) (R (j .plan) (j .accepted))) (s .0) in
+    let q = both-true _ (leb (R (j .plan) (j .accepted - 1)) (j .taken)) (r .0) in
+    let p = both-true _ (leb (j .accepted) (j .plan .source .height)) (q .0) in
+    record {
+      sizes = fits-of (j .plan .source) (j .plan .crop) (j .plan .target) (eqb-true _ _ (p .0));
+      rows = leb-true _ _ (p .1);
+      low = leb-true _ _ (q .1);
+      high = leb-true _ _ (r .1);
+      flagless = flag-of (j .taken) (j .flag) (s .1);
+    }
+
+pub rules-good : (j : Job) → Rules j → lawful j ≡ true
+unfolding lawful
+rules-good j r =
+    simp (
+      eq-eqb _ 0 (fits-good (j .plan .source) (j .plan .crop) (j .plan .target) (r .sizes)),
+      le-leb (j .accepted) (j .plan .source .height) (r .rows),
+      le-leb (R (j .plan) (j .accepted - 1)) (j .taken) (r .low),
+      le-leb (j .taken) (R (j .plan) (j .accepted)) (r .high),
+      flag-good (j .taken) (j .flag) (r .flagless),
+    )
