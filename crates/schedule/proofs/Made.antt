@@ -1,7 +1,7 @@
 -- R of u (document 01, "The job"; MATHEMATICS 4): its three forms, that it starts at 0, does not fall, rises by at most one where the height does
 -- not grow, and ends at g. Each law goes by the three forms once; a quotient is then compared by multiplying it out. Assumes nothing.
 use Prim.Native.Nat.{ℕ, zero, suc, _+_, _*_, _-_, _/_, _≤_, _<_}
-use mathlib.Core.Path.{_≡_, refl, _∙_}
+use mathlib.Core.Path.{_≡_, _∙_}
 use mathlib.Core.Logic.{_⊎_, inl, inr}
 use native.Mathlib.Omega.{arith}
 use native.Mathlib.Nat.{lt-of-mul-lt-mul-right}

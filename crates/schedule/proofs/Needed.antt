@@ -1,16 +1,16 @@
 -- U Y, the crop rows that output row Y needs (MATHEMATICS 2, 3 and 4): it is the least u whose R is above Y, it does not fall, it rises with every row
 -- where the height does not grow, and d, what the last of these crop rows has left over, is in range. Assumes nothing.
-use Prim.Native.Nat.{ℕ, zero, suc, _+_, _*_, _-_, _/_, _≤_, _<_, suc-le-suc}
-use mathlib.Core.Path.{_≡_, refl, sym, _∙_, ap}
+use Prim.Native.Nat.{ℕ, zero, suc, _+_, _*_, _-_, _/_, _≤_, _<_}
+use mathlib.Core.Path.{_≡_, sym, _∙_}
 use mathlib.Core.Logic.{_⊎_, inl, inr}
 use native.Mathlib.Omega.{arith}
-use native.Mathlib.Nat.{le-div-iff-mul-le, lt-of-mul-lt-mul-right, mul-le-mul-right, mul-le-mul-left}
+use native.Mathlib.Nat.{le-div-iff-mul-le, lt-of-mul-lt-mul-right, mul-le-mul-right}
 use borrow.Author.Tests.{le-leb, lt-leb, ne-eqb}
 use Rattle.arithmetic.specs.Quotient.{ceil}
 use Rattle.arithmetic.proofs.Orders.{le-or-lt}
 use Rattle.arithmetic.proofs.Quotients.{ceil-low, ceil-high, ceil-le, ceil-mono, div-least}
 use Rattle.schedule.specs.Schedule.{used, made, rowsBy, needed, since}
-use Rattle.schedule.proofs.Made.{Form, down, one, up, form, made-down, made-one, made-up, made-none, made-mono, made-all}
+use Rattle.schedule.proofs.Made.{Form, down, one, up, form, made-down, made-one, made-up, made-none, made-all}
 use Rattle.schedule.proofs.Crop.{inside, rows-none, rows-moved}
 
 -- ---- the three forms
