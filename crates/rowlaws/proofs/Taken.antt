@@ -9,7 +9,7 @@ use native.Mathlib.Omega.{arith}
 use native.Mathlib.Nat.{eq-or-lt-of-le, le-of-suc-le-suc, le-trans}
 use Rattle.arithmetic.specs.Weight.{span}
 use Rattle.arithmetic.specs.Matte.{laneOf, pixelOf, multArgb, scaleColour, matteFactor, restoreFactor}
-use Rattle.arithmetic.proofs.Mattes.{pixel-lane, lane-byte, lane-zero, matte-colour, matte-within, argb-opaque, argb-clear, restore-alpha, restore-colour, scale-mono}
+use Rattle.arithmetic.proofs.Mattes.{pixel-lane, lane-byte, lane-zero, matte-colour, matte-within, argb-opaque, argb-clear, restore-alpha, restore-colour, scaleColour-mono}
 use Rattle.rows.specs.Closed.{scaled}
 use Rattle.rowlaws.proofs.Monotone.{scaled-mono, scaled-byte}
 
@@ -49,7 +49,7 @@ pub restored-mono : (s s' : ℕ → ℕ) → s 3 ≡ s' 3 → s' 3 ≤ 255 → (
     → laneOf (multArgb (pixelOf s) true) k ≤ laneOf (multArgb (pixelOf s') true) k
 restored-mono s s' same byte le within k l =
     rw (restored-colour s (λ i u. omega (arith, le i u, within i u)) (omega arith) k l, restored-colour s' within byte k l, same)
-    (scale-mono (restoreFactor (s' 3)) (le k l))
+    (scaleColour-mono (restoreFactor (s' 3)) (le k l))
 
 -- ---- pixel j of output row y of the picture whose lane k is p k, restored; lane 3 is the alpha
 abbrev pub takenPixel : ℕ → ℕ → ℕ → ℕ → (ℕ → ℕ → ℕ → ℕ) → ℕ → ℕ → ℕ
@@ -68,7 +68,7 @@ matte-matted n h argb =
 -- and is monotone in the colour for one alpha
 pub matte-mono : (argb argb' k : ℕ) → k < 3 → laneOf argb 3 ≡ laneOf argb' 3 → laneOf argb k ≤ laneOf argb' k → laneOf (multArgb argb false) k ≤ laneOf (multArgb argb' false) k
 matte-mono argb argb' k l same le =
-    rw (matte-colour argb k l, matte-colour argb' k l, same) (scale-mono (matteFactor (laneOf argb' 3)) le)
+    rw (matte-colour argb k l, matte-colour argb' k l, same) (scaleColour-mono (matteFactor (laneOf argb' 3)) le)
 
 module _ (n m h g j y : ℕ) (wide : 0 < n) (small : m ≤ 16384) (high : 0 < h) (low : g ≤ 16384) (column : j < m) (row : y < g) (premise : g ≤ h → span n m * h ≤ 4194304 * g) where
   module _ (p : ℕ → ℕ → ℕ → ℕ) (matted : Matted n h p) where
