@@ -21,12 +21,12 @@ use Rattle.rowlaws.proofs.WorkRows.{rowIn-length}
 use Rattle.job.specs.declared.Plan.{Plan}
 use Rattle.job.specs.Record.{R}
 use Rattle.job.specs.Calls.{inCrop, valuesOf, rowAccepted, fed}
-use Rattle.claim.proofs.Reading.{V, values-are}
+use Rattle.claim.proofs.Reading.{cropValue, values-are}
 
 -- what the work rows hold once k source rows were accepted and t rows taken
 abbrev pub Holds : Plan → (ℕ → ℕ) → ℕ → ℕ → List ℕ → Type 0
 Holds p b k t work =
-    Held (p .crop .height) (p .target .height) (halfValues (p .target .width)) (V p b) (used (p .crop .y) (p .crop .height) k) t work
+    Held (p .crop .height) (p .target .height) (halfValues (p .target .width)) (cropValue p b) (used (p .crop .y) (p .crop .height) k) t work
 
 -- ---- a row of the bytes lent
 module _ (rows : List ℕ) (w n i : ℕ) (here : rowBytes w * n ≤ length rows) (l : i < n) where
@@ -75,7 +75,7 @@ module _ (p : Plan) (fits : Fits (p .source) (p .crop) (p .target)) where
           let at : p .crop .y + u ≡ k = used-row (p .crop .y) (p .crop .height) k a c in
           let same = values-are p b row u fits long (λ z l. agrees z l ∙ ap (λ (s : ℕ). b (rowBytes (p .source .width) * s + z)) (sym at)) in
           rw (row-in row k work a c, e, inside (p .crop .y) (p .crop .height) k a c)
-          (held-in (p .crop .height) (p .target .height) (halfValues (p .target .width)) (V p b) u t (valuesOf p row) work
+          (held-in (p .crop .height) (p .target .height) (halfValues (p .target .width)) (cropValue p b) u t (valuesOf p row) work
           (since-le (p .crop .height) (p .target .height) u t (fits .crop-height) (fits .target-height .some) le) same held)
       by (beside e w) = rw (row-beside row k work w, e) held
 

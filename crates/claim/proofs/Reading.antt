@@ -27,8 +27,8 @@ use Rattle.job.specs.Calls.{valuesOf}
 use Rattle.claim.specs.Rows.{sourceByte, mattedByte}
 
 -- the value of crop row c at place x of a half
-unfoldable pub V : Plan → (ℕ → ℕ) → ℕ → ℕ → ℕ
-V p b c x = value (mattedByte p b (x % lanes) c) (p .crop .width) (p .target .width) (x / lanes)
+unfoldable pub cropValue : Plan → (ℕ → ℕ) → ℕ → ℕ → ℕ
+cropValue p b c x = value (mattedByte p b (x % lanes) c) (p .crop .width) (p .target .width) (x / lanes)
 
 -- ---- the same pixels, the same value
 pub value-cong : (p q : ℕ → ℕ) (n m j : ℕ) → j < m → ((i : ℕ) → i < n → p i ≡ q i) → value p n m j ≡ value q n m j
@@ -67,8 +67,8 @@ module _ (p : Plan) (b : ℕ → ℕ) (row : List ℕ) (c : ℕ) (fits : Fits (p
       ap (λ (t : ℕ). laneOf (multArgb t false) k)
       (word-cong (laneAt (p .layout) (windowOf row (p .crop .x) (p .crop .width)) i) (sourceByte p b c i) (λ k' u. window-lane i k' l u))
 
-  pub values-are : (x : ℕ) → x < halfValues (p .target .width) → valuesOf p row x ≡ V p b c x
-  unfolding rowValue V
+  pub values-are : (x : ℕ) → x < halfValues (p .target .width) → valuesOf p row x ≡ cropValue p b c x
+  unfolding rowValue cropValue
   values-are x l =
       value-cong (matted (p .layout) (windowOf row (p .crop .x) (p .crop .width)) (x % lanes)) (mattedByte p b (x % lanes) c) (p .crop .width) (p .target .width) (x / lanes) (omega arith)
       (λ i u. matted-is (x % lanes) i u)
@@ -78,9 +78,9 @@ pub matted-small : (p : Plan) (b : ℕ → ℕ) (k c i : ℕ) → mattedByte p b
 unfolding mattedByte
 matted-small p b k c i = lane-byte (multArgb (wordOf (sourceByte p b c i)) false) k
 
-pub V-word : (p : Plan) (b : ℕ → ℕ) → Fits (p .source) (p .crop) (p .target) → (c x : ℕ) → x < halfValues (p .target .width) → V p b c x < 2 ^ 32
-unfolding V
-V-word p b fits c x l =
+pub cropValue-word : (p : Plan) (b : ℕ → ℕ) → Fits (p .source) (p .crop) (p .target) → (c x : ℕ) → x < halfValues (p .target .width) → cropValue p b c x < 2 ^ 32
+unfolding cropValue
+cropValue-word p b fits c x l =
     value-word (mattedByte p b (x % lanes) c) (p .crop .width) (p .target .width) (x / lanes) (fits .crop-width) (fits .target-width .most) (omega arith)
     (λ i u. matted-small p b (x % lanes) c i) (omega (arith, fits .right, fits .source-width .most))
 
