@@ -93,7 +93,7 @@ restBefore h g v y = (since h g y * g - y * h) * newest v (since h g y)
 abbrev pub restAfter : ℕ → ℕ → (ℕ → ℕ) → ℕ → ℕ
 restAfter h g v y = (needed h g y * g - suc y * h) * newest v (needed h g y)
 
-module _ (h g : ℕ) (v : ℕ → ℕ) (y : ℕ) (pos : 0 < g) (low : g ≤ h) (within : y < g) where
+module _ (h g y : ℕ) (v : ℕ → ℕ) (pos : 0 < g) (low : g ≤ h) (within : y < g) where
   -- Σ weight × V + d × V(U-1) = d(Y-1) × V(U(Y-1)-1) + g × Σ V
   pub weighed-sum : weighed h g v y + restAfter h g v y ≡ restBefore h g v y + g * sum v (since h g y) (needed h g y - since h g y)
   weighed-sum =
@@ -117,46 +117,46 @@ module _ (h g : ℕ) (v : ℕ → ℕ) (y : ℕ) (pos : 0 < g) (low : g ≤ h) (
       sum-term v (since h g y) (needed h g y - since h g y) (needed h g y - 1) (omega arith) (omega arith) in
       omega (arith, share-le g (restDown h g (needed h g y) y) (newest v (needed h g y)), newest-at v (needed h g y) (omega arith))
 
-  module _ (W : ℕ) (small : g ≤ 16384) (most : (c : ℕ) → c < h → v c ≤ 256 * W) where
-    pub rest-before : Rest W g (shareBefore h g v y) (restBefore h g v y)
-    rest-before = shared h g v W y pos low small most (omega arith)
+module _ (h g y : ℕ) (v : ℕ → ℕ) (W : ℕ) (pos : 0 < g) (low : g ≤ h) (within : y < g) (small : g ≤ 16384) (most : (c : ℕ) → c < h → v c ≤ 256 * W) where
+  pub rest-before : Rest W g (shareBefore h g v y) (restBefore h g v y)
+  rest-before = shared h g v W y pos low small most (omega arith)
 
-    pub rest-after : Rest W g (shareBefore h g v (suc y)) (restAfter h g v y)
-    unfolding since
-    rest-after = shared h g v W (suc y) pos low small most within
+  pub rest-after : Rest W g (shareBefore h g v (suc y)) (restAfter h g v y)
+  unfolding since
+  rest-after = shared h g v W (suc y) pos low small most within
 
-    -- under the premise nothing wraps
-    pub whole-fits : W * h ≤ 4194304 * g → whole h g v y ≤ 2 ^ 31
-    whole-fits premise =
-        let d : needed h g y * g - suc y * h ≤ g = omega (arith, down-high h g y pos low) in
-        let r : restAfter h g v y ≤ g * (256 * W) =
-        mul-le-mul d (newest-most v (256 * W) h (needed h g y) most (needed-le h g y (omega arith) within)) in
-        le-of-mul-le-mul-right {k = g} (go _ _ _ _ _ weighed-sum (rest-before .not-above) (weighed-most (256 * W) most) r) pos
-      where
-        go : (w a b f s : ℕ) → w + a ≡ b + g * s → f * g ≤ b → w ≤ 256 * W * h → a ≤ g * (256 * W) → (f + s) * g ≤ 2 ^ 31 * g
-        go w a b f s sum-is not-above hw ha = omega (arith, mul-le-mul-right (256 * W) low, premise)
+  -- under the premise nothing wraps
+  pub whole-fits : W * h ≤ 4194304 * g → whole h g v y ≤ 2 ^ 31
+  whole-fits premise =
+      let d : needed h g y * g - suc y * h ≤ g = omega (arith, down-high h g y pos low) in
+      let r : restAfter h g v y ≤ g * (256 * W) =
+      mul-le-mul d (newest-most v (256 * W) h (needed h g y) most (needed-le h g y (omega arith) within)) in
+      le-of-mul-le-mul-right {k = g} (go _ _ _ _ _ (weighed-sum h g y v pos low within) (rest-before .not-above) (weighed-most h g y v pos low within (256 * W) most) r) pos
+    where
+      go : (w a b f s : ℕ) → w + a ≡ b + g * s → f * g ≤ b → w ≤ 256 * W * h → a ≤ g * (256 * W) → (f + s) * g ≤ 2 ^ 31 * g
+      go w a b f s sum-is not-above hw ha = omega (arith, mul-le-mul-right (256 * W) low, premise)
 
-    -- A, which is what is left once f came off, times g: near the weighted sum
-    pub left-high : (a : ℕ) → a + shareBefore h g v (suc y) ≡ whole h g v y → 1024 * (a * g) < 1024 * weighed h g v y + 1024 * g + W * g
-    left-high a is = go _ _ _ _ _ _ weighed-sum is (rest-before .not-above) (rest-after .not-far)
-      where
-        go : (w x b f f' s : ℕ) → w + x ≡ b + g * s → a + f' ≡ f + s → f * g ≤ b → 1024 * x < 1024 * (f' * g) + 1024 * g + W * g → 1024 * (a * g) < 1024 * w + 1024 * g + W * g
-        go w x b f f' s p q k l = omega (arith, times g q)
+  -- A, which is what is left once f came off, times g: near the weighted sum
+  pub left-high : (a : ℕ) → a + shareBefore h g v (suc y) ≡ whole h g v y → 1024 * (a * g) < 1024 * weighed h g v y + 1024 * g + W * g
+  left-high a is = go _ _ _ _ _ _ (weighed-sum h g y v pos low within) is (rest-before .not-above) (rest-after .not-far)
+    where
+      go : (w x b f f' s : ℕ) → w + x ≡ b + g * s → a + f' ≡ f + s → f * g ≤ b → 1024 * x < 1024 * (f' * g) + 1024 * g + W * g → 1024 * (a * g) < 1024 * w + 1024 * g + W * g
+      go w x b f f' s p q k l = omega (arith, times g q)
 
-    pub left-low : (a : ℕ) → a + shareBefore h g v (suc y) ≡ whole h g v y → 1024 * weighed h g v y < 1024 * (a * g) + 1024 * g + W * g
-    left-low a is = go _ _ _ _ _ _ weighed-sum is (rest-before .not-far) (rest-after .not-above)
-      where
-        go : (w x b f f' s : ℕ) → w + x ≡ b + g * s → a + f' ≡ f + s → 1024 * b < 1024 * (f * g) + 1024 * g + W * g → f' * g ≤ x → 1024 * w < 1024 * (a * g) + 1024 * g + W * g
-        go w x b f f' s p q k l = omega (arith, times g q)
+  pub left-low : (a : ℕ) → a + shareBefore h g v (suc y) ≡ whole h g v y → 1024 * weighed h g v y < 1024 * (a * g) + 1024 * g + W * g
+  left-low a is = go _ _ _ _ _ _ (weighed-sum h g y v pos low within) is (rest-before .not-far) (rest-after .not-above)
+    where
+      go : (w x b f f' s : ℕ) → w + x ≡ b + g * s → a + f' ≡ f + s → 1024 * b < 1024 * (f * g) + 1024 * g + W * g → f' * g ≤ x → 1024 * w < 1024 * (a * g) + 1024 * g + W * g
+      go w x b f f' s p q k l = omega (arith, times g q)
 
 -- ---- the byte
 pub scaled-down : (W h g : ℕ) (v : ℕ → ℕ) (y : ℕ) → g ≤ h → scaledByte W h g v y ≡ byteDown (ratio W h g) (heap h g v y (needed h g y)) (shareBefore h g v (suc y))
 unfolding scaledByte
 scaled-down W h g v y low = simp (le-leb g h low)
 
-pub heap-exact : (h g : ℕ) (v : ℕ → ℕ) (y : ℕ) → whole h g v y < 2 ^ 32 → heap h g v y (needed h g y) ≡ whole h g v y
+pub heap-exact : (h g y : ℕ) (v : ℕ → ℕ) → whole h g v y < 2 ^ 32 → heap h g v y (needed h g y) ≡ whole h g v y
 unfolding heap
-heap-exact h g v y fits = omega arith
+heap-exact h g y v fits = omega arith
 
 pub byte-whole : (q a f : ℕ) → q ≡ 2 ^ 32 → byteDown q a f ≡ a % 256
 unfolding byteDown
@@ -197,7 +197,7 @@ module _ (h g y : ℕ) (v e : ℕ → ℕ) (W s : ℕ) (pos : 0 < g) (low : g �
   most c l = let n = near c l in omega (arith, bytes c l)
 
   fits : whole h g v y ≤ 2 ^ 31
-  fits = whole-fits h g v y pos low within W small most premise
+  fits = whole-fits h g y v W pos low within small most premise
 
   close : Close (s * h) S T
   close = rw (sum-cong _ _ 0 h (λ c l u. weight-shrink h g y c low) ∙ shrink-total h g y within) at (close-weighted (weight h g y) v e s h near)
@@ -210,17 +210,17 @@ module _ (h g y : ℕ) (v e : ℕ → ℕ) (W s : ℕ) (pos : 0 < g) (low : g �
   f = shareBefore h g v (suc y)
 
   f-in : f ≤ w
-  f-in = share-in-whole h g v y pos low within
+  f-in = share-in-whole h g y v pos low within
 
   most-T : T ≤ 255 * (W * h)
-  most-T = let t = weighed-most h g e y pos low within (255 * W) bytes in omega arith
+  most-T = let t = weighed-most h g y e pos low within (255 * W) bytes in omega arith
 
   byte : Near (MULT (w - f) (ratio W h g)) T (W * h)
   unfolding ratio
   byte =
       let left : w - f + f ≡ w = omega (arith, f-in) in
-      let high = left-high h g v y pos low within W small most (w - f) left in
-      let deep = left-low h g v y pos low within W small most (w - f) left in
+      let high = left-high h g y v W pos low within small most (w - f) left in
+      let deep = left-low h g y v W pos low within small most (w - f) left in
       let a : w - f ≤ 2 ^ 30 = go (w - f) S T (mul-le-mul-right g narrow) high (close .above) most-T (mul-le-mul-right h slack) in
       byte-near (w - f) g h W s S T slack (omega arith) low a high deep close
     where
@@ -236,7 +236,7 @@ module _ (h g y : ℕ) (v e : ℕ → ℕ) (W s : ℕ) (pos : 0 < g) (low : g �
       omega (arith, times y equal, down-low h g y pos low, rest-none g (needed h g y) (suc y) (omega (arith, times y equal, down-low h g y pos low)) (omega (arith, times y equal, down-high h g y pos low))) in
       let b0 : restBefore h g v y ≡ 0 = ap (λ (t : ℕ). t * newest v (since h g y)) before ∙ zero-mul (newest v (since h g y)) in
       let a0 : restAfter h g v y ≡ 0 = ap (λ (t : ℕ). t * newest v (needed h g y)) after ∙ zero-mul (newest v (needed h g y)) in
-      exactly _ _ _ _ (shareBefore h g v y) (sum v (since h g y) (needed h g y - since h g y)) (weighed-sum h g v y pos low within) a0 b0 (rest-before h g v y pos low within W small most .not-above) close most-T
+      exactly _ _ _ _ (shareBefore h g v y) (sum v (since h g y) (needed h g y - since h g y)) (weighed-sum h g y v pos low within) a0 b0 (rest-before h g y v W pos low within small most .not-above) close most-T
     where
       exactly : (x z a b k t : ℕ) → x + a ≡ b + g * t → a ≡ 0 → b ≡ 0 → k * g ≤ b → Close (s * h) x z → z ≤ 255 * (W * h) → Near ((k + t) % 256) z (W * h)
       exactly x z a b k t q a0 b0 kb c m =
@@ -249,7 +249,7 @@ module _ (h g y : ℕ) (v e : ℕ → ℕ) (W s : ℕ) (pos : 0 < g) (low : g �
 
   pub distance-down : Near (scaledByte W h g v y) (sum (λ c. weight h g y c * e c) 0 h) (W * h)
   distance-down =
-      rw (scaled-down W h g v y low, heap-exact h g v y (omega (arith, fits))) (by (le-or-lt (ratio W h g) (2 ^ 32)))
+      rw (scaled-down W h g v y low, heap-exact h g y v (omega (arith, fits))) (by (le-or-lt (ratio W h g) (2 ^ 32)))
     where
       part : ratio W h g ≢ 2 ^ 32 → Near (byteDown (ratio W h g) w f) T (W * h)
       part ne = rw (byte-part (ratio W h g) w f ne, wrapSub-exact w f f-in (omega (arith, fits))) (near-clamp (MULT (w - f) (ratio W h g)) T (W * h) most-T byte)
