@@ -168,8 +168,8 @@ module _ (sp h g : ℕ) (v v' : ℕ → ℕ) (y : ℕ) (pos : 0 < sp) (shrinks :
   pub byte-mono-down : scaledByte sp h g v y ≤ scaledByte sp h g v' y
   byte-mono-down =
       let r = first-rises h g v v' y shrinks within le in
-      let fits : whole h g v' y ≤ 2 ^ 31 = whole-fits h g v' y (omega arith) shrinks within sp small (λ c l. omega (arith, most c l)) premise in
-      rw (scaled-down sp h g v y shrinks, scaled-down sp h g v' y shrinks, heap-exact h g v y (omega (arith, r .le)), heap-exact h g v' y (omega arith))
+      let fits : whole h g v' y ≤ 2 ^ 31 = whole-fits h g y v' sp (omega arith) shrinks within small (λ c l. omega (arith, most c l)) premise in
+      rw (scaled-down sp h g v y shrinks, scaled-down sp h g v' y shrinks, heap-exact h g y v (omega (arith, r .le)), heap-exact h g y v' (omega arith))
       (byteDown-mono (ratio sp h g) (whole h g v y) (whole h g v' y) (shareBefore h g v (suc y)) (shareBefore h g v' (suc y)) (r .low) (r .low') (r .le) (r .left) (omega arith) byte-where-whole)
 
 -- ---- a row goes out, g > h
