@@ -1,2 +1,5 @@
 pub mod Reading
 pub mod Feeding
+pub mod Taking
+pub mod Flagged
+pub mod Invariant
