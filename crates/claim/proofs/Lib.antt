@@ -3,3 +3,5 @@ pub mod Feeding
 pub mod Taking
 pub mod Flagged
 pub mod Invariant
+pub mod Theorem
+pub mod Reaching

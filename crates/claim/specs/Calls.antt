@@ -1,18 +1,19 @@
 -- A list of calls from a fresh job, and what is counted from the calls and their answers, never read from the record (document 01, "The list of demand 3").
 -- The answers are the definitions that stand in the contracts of start, offer and take. Assumes nothing.
-use Prim.Native.Nat.{ℕ, _+_, _*_, _<_}
+use Prim.Native.Nat.{ℕ, _+_, _*_}
 use mathlib.Core.Bool.{Bool, false, cond}
 use mathlib.Core.List.{List, [], _∷_, _++_}
 use mathlib.Core.Path.{_≡_}
 use lib.Dec.{eqb}
-use lib.ListN.{length, getD, take, drop}
+use lib.ListN.{length, take, drop}
 use Rattle.pixels.specs.Sizes.{rowBytes}
 use Rattle.job.specs.declared.Plan.{Plan}
 use Rattle.job.specs.declared.Job.{Job}
 use Rattle.job.specs.Record.{fresh}
 use Rattle.job.specs.Calls as job
 
--- An offer with its bytes, or a take with its output buffer; and how many of the work values are lent, all of them or a beginning.
+-- An offer with its bytes, or a take with its output buffer; and how many of the work values are lent, all of them or a beginning. Bytes are numbers below
+-- 256; the claim holds of any numbers.
 pub data Call : Type 0 where
   Offer : List ℕ → ℕ → Call
   Take : List ℕ → ℕ → Call
@@ -90,15 +91,6 @@ run p r (call ∷ calls) = run p (step p r call) calls
 -- "A fresh job is the record that an accepting start returned, with the work rows as start left them"
 abbrev pub begun : Plan → List ℕ → Run
 begun p work = record { job = fresh p; work = job.startWork p work; seen = nothing }
-
--- ---- offered bytes are bytes
-abbrev pub Bytes : List ℕ → Type 0
-Bytes s = (i : ℕ) → i < length s → getD s i 0 < 256
-
-abbrev pub OfBytes : List Call → Type 0
-OfBytes [] = Unit {0}
-OfBytes (Offer rows lent ∷ calls) = Bytes rows × OfBytes calls
-OfBytes (Take out lent ∷ calls) = OfBytes calls
 
 -- no call of the list is turned away
 abbrev pub NoneRefused : Plan → Run → List Call → Type 0

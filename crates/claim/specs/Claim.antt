@@ -12,7 +12,7 @@ use Rattle.job.specs.declared.Plan.{Plan}
 use Rattle.job.specs.Record.{R}
 use Rattle.job.specs.Calls.{startNumber}
 use Rattle.claim.specs.Rows.{mattedByte, rowOf, joined, resized, resizedFlag}
-use Rattle.claim.specs.Calls.{Call, Offer, Take, Run, step, run, begun, offerNumber, offerRows, takeNumber, OfBytes, NoneRefused}
+use Rattle.claim.specs.Calls.{Call, Offer, Take, Run, step, run, begun, offerNumber, offerRows, takeNumber, NoneRefused}
 
 -- ---- "Buffers have the right length when 3, 4 and 5 don't apply"
 
@@ -90,8 +90,7 @@ pub record Reached (p : Plan) (work pixels : List ℕ) (calls : List Call) : Typ
 -- ---- DEMAND 3
 pub record Demand3 : Type 0 where
   -- for every accepting start and every list of calls
-  pub every-list : (p : Plan) (work : List ℕ) → startNumber p (length work) ≡ 0 → (calls : List Call) → OfBytes calls
-      → Claim p (run p (begun p work) calls)
+  pub every-list : (p : Plan) (work : List ℕ) → startNumber p (length work) ≡ 0 → (calls : List Call) → Claim p (run p (begun p work) calls)
   -- and for every source of the right length there is a list that gets to the end
   pub some-list : (p : Plan) (work : List ℕ) → startNumber p (length work) ≡ 0
       → (pixels : List ℕ) → length pixels ≡ pictureBytes (p .source .width) (p .source .height)
