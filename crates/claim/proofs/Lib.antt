@@ -1,3 +1,4 @@
 pub mod Reading
 pub mod Feeding
 pub mod Flagged
+pub mod Whole
