@@ -21,12 +21,15 @@ use Rattle.pixels.specs.Layout.{placeOf}
 use Rattle.pixels.specs.Lanes.{restoredPlace}
 use Rattle.pixels.specs.Picture.{hasAlpha, windowOf, pictureRow, croppedRows, cropped}
 use Rattle.pixels.proofs.Tabled.{place-lt}
+use Rattle.schedule.proofs.Crop.{rows-all}
 use Rattle.schedule.proofs.Needed.{needed-le}
 use Rattle.rows.specs.Column.{value}
 use Rattle.rows.specs.Closed.{scaled}
 use Rattle.rowlaws.proofs.Reach.{scaledByte-same}
 use Rattle.job.specs.declared.Plan.{Plan}
+use Rattle.job.specs.Record.{R}
 use Rattle.claim.specs.Rows.{sourceByte, mattedByte, scaledLane, rowOf, joined, rowsOf, resizePlan, resized, resizedFlag}
+use Rattle.claim.specs.Calls.{Run}
 use Rattle.claim.proofs.Reading.{value-cong, word-cong, window-byte, restored-cong}
 use Rattle.claim.proofs.Feeding.{row-length, row-byte}
 use Rattle.claim.proofs.Flagged.{joined-append}
@@ -186,3 +189,19 @@ module _ (p : Plan) (pixels : List ℕ) (fits : Fits (p .source) (p .crop) (p .t
     unfolding resizedFlag
     crop-then-resize-flag f flag =
         flag ∙ ap (λ (s : List ℕ). hasAlpha (p .layout) s (p .target .width * p .target .height)) crop-then-resize
+
+-- ---- at the end of a list of calls, from what was counted
+module _ (p : Plan) (r : Run) (fits : Fits (p .source) (p .crop) (p .target)) (bytes : length (r .seen .source) ≡ rowBytes (p .source .width) * r .seen .accepted) (handed : length (r .seen .rows) ≡ r .seen .taken) (contents : (y : ℕ) → y < r .seen .taken → getD (r .seen .rows) y [] ≡ rowOf p (λ i. getD (r .seen .source) i 0) y) (at-end : r .seen .accepted ≡ p .source .height) (all-taken : r .seen .taken ≡ R p (p .source .height)) where
+  all-rows : r .seen .taken ≡ p .target .height
+  all-rows =
+      all-taken ∙ rows-all (p .crop .y) (p .crop .height) (p .target .height) (fits .crop-height) (p .source .height) (fits .bottom)
+
+  pub seen-whole : joined (r .seen .rows) ≡ resized (sizeOf (p .crop .width) (p .crop .height)) (p .layout) (p .target) (cropped (p .source) (p .crop) (r .seen .source))
+  seen-whole =
+      crop-then-resize p (r .seen .source) fits (rw at-end at bytes) (r .seen .rows) (handed ∙ all-rows) (λ y l. contents y (omega (arith, all-rows)))
+
+  pub seen-whole-flag : r .seen .flag ≡ hasAlpha (p .layout) (joined (r .seen .rows)) (p .target .width * r .seen .taken)
+      → r .seen .flag ≡ resizedFlag (sizeOf (p .crop .width) (p .crop .height)) (p .layout) (p .target) (cropped (p .source) (p .crop) (r .seen .source))
+  seen-whole-flag flag =
+      crop-then-resize-flag p (r .seen .source) fits (rw at-end at bytes) (r .seen .rows) (handed ∙ all-rows) (λ y l. contents y (omega (arith, all-rows)))
+      (r .seen .flag) (rw all-rows at flag)
