@@ -5,5 +5,4 @@ pub mod Flagged
 pub mod Invariant
 pub mod Theorem
 pub mod Reaching
-pub mod Flagged
 pub mod Whole

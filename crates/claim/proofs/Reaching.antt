@@ -54,39 +54,46 @@ module _ (p : Plan) (pixels : List ℕ) (long : length pixels ≡ pictureBytes (
   First : Seen → Type 0
   First s = s .source ≡ take (rowBytes (p .source .width) * s .accepted) pixels
 
-  way : (n : ℕ) (s : Seen) (work : List ℕ) → Inv p s work → First s → left s ≡ n → Way p pixels (runAt p s work)
-  unfolding left First run
-  way n s work v first e = by n e (le-or-lt (R p (s .accepted)) (s .taken)) (le-or-lt (p .source .height) (s .accepted))
-    where
-      w : ℕ
-      w = rowBytes (p .source .width)
+  -- one row more
+  next : (k : ℕ) → length (pictureRow pixels (p .source .width) k) ≡ rowBytes (p .source .width)
+      → take (rowBytes (p .source .width) * k) pixels ++ take (rowBytes (p .source .width) * 1) (pictureRow pixels (p .source .width) k) ≡ take (rowBytes (p .source .width) * (k + 1)) pixels
+  unfolding pictureRow
+  next k len =
+      let w : ℕ = rowBytes (p .source .width) in
+      let one : w * 1 ≡ w = omega arith in
+      let more : w * (k + 1) ≡ w * k + w = omega arith in
+      rw (one, more, take-add (w * k) w pixels) (ap (λ (t : List ℕ). take (w * k) pixels ++ t) (take-all w (take w (drop (w * k) pixels)) (omega arith)))
 
-      most : R p (s .accepted) ≤ p .target .height
-      most = rows-most (p .crop .y) (p .crop .height) (p .target .height) (v .rules .sizes .crop-height) (s .accepted)
+  module _ (s : Seen) (work : List ℕ) (v : Inv p s work) (first : First s) where
+    most : R p (s .accepted) ≤ p .target .height
+    most = rows-most (p .crop .y) (p .crop .height) (p .target .height) (v .rules .sizes .crop-height) (s .accepted)
 
-      -- the end
-      arrived : R p (s .accepted) ≤ s .taken → p .source .height ≤ s .accepted → Way p pixels (runAt p s work)
-      arrived a b =
-          let same : s .accepted ≡ p .source .height = omega (arith, v .rules .rows) in
-          record {
-            calls = [];
-            none-refused = tt;
-            source = first ∙ take-all (rowBytes (p .source .width) * s .accepted) pixels (rw (long, same) (omega arith));
-            accepted = same;
-            taken = rw (← same) (omega (arith, v .rules .high));
-          }
+    -- the end
+    arrived : R p (s .accepted) ≤ s .taken → p .source .height ≤ s .accepted → Way p pixels (runAt p s work)
+    unfolding First run
+    arrived a b =
+        let same : s .accepted ≡ p .source .height = omega (arith, v .rules .rows) in
+        record {
+          calls = [];
+          none-refused = tt;
+          source = first ∙ take-all (rowBytes (p .source .width) * s .accepted) pixels (rw (long, same) (omega arith));
+          accepted = same;
+          taken = rw (← same) (omega (arith, v .rules .high));
+        }
 
-      by : (n : ℕ) → left s ≡ n → (R p (s .accepted) ≤ s .taken) ⊎ (s .taken < R p (s .accepted)) → (p .source .height ≤ s .accepted) ⊎ (s .accepted < p .source .height) → Way p pixels (runAt p s work)
-      by n e (inl a) (inl b) = arrived a b
-      by zero e (inr a) b = absurd (omega (arith, most))
-      by zero e (inl a) (inr b) = absurd (omega arith)
-      by (suc n) e (inr a) b =
+    module _ (n : ℕ) (ih : (s : Seen) (work : List ℕ) → Inv p s work → First s → left s ≡ n → Way p pixels (runAt p s work)) (e : left s ≡ suc n) where
+      by-take : s .taken < R p (s .accepted) → Way p pixels (runAt p s work)
+      unfolding left First
+      by-take a =
           let out : List ℕ = replicate (rowBytes (p .target .width)) 0 in
           let goes = Views.take-goes (jobAt p s) (length out) (length (take (length work) work)) (v .rules) (length-replicate (rowBytes (p .target .width)) 0) (rw (take-length work) (v .room)) a in
           let o = Views.take-went (jobAt p s) out (take (length work) work) goes in
           take-first p pixels (runAt p s work) out (length work) goes
-          (rw (take-leads p s work v out (length work) o) (way n _ _ (take-kept p s work v out (length work) o) first (omega (arith, most))))
-      by (suc n) e (inl a) (inr b) =
+          (rw (take-leads p s work v out (length work) o) (ih _ _ (take-kept p s work v out (length work) o) first (omega (arith, most))))
+
+      by-offer : R p (s .accepted) ≤ s .taken → s .accepted < p .source .height → Way p pixels (runAt p s work)
+      unfolding left First
+      by-offer a b =
           let w : ℕ = rowBytes (p .source .width) in
           let row : List ℕ = pictureRow pixels (p .source .width) (s .accepted) in
           let some : 0 < w = omega (arith, v .rules .sizes .source-width .some) in
@@ -98,17 +105,30 @@ module _ (p : Plan) (pixels : List ℕ) (long : length pixels ≡ pictureBytes (
           let c : count (jobAt p s) (length row) ≡ 1 = omega (arith, count-some (jobAt p s) (length row) whole a b, count-most (jobAt p s) (length row)) in
           offer-first p pixels (runAt p s work) row (length work) goes
           (rw (offer-leads p s work v row (length work) o)
-          (way n _ _ (offer-kept p s work v row (length work) o) (rw (c, first) (next (s .accepted) row len)) (rw c (omega arith))))
-        where
-          next : (k : ℕ) (row : List ℕ) → length (pictureRow pixels (p .source .width) k) ≡ rowBytes (p .source .width)
-              → take (rowBytes (p .source .width) * k) pixels ++ take (rowBytes (p .source .width) * 1) (pictureRow pixels (p .source .width) k) ≡ take (rowBytes (p .source .width) * (k + 1)) pixels
-          next k row len = ?
+          (ih _ _ (offer-kept p s work v row (length work) o) (rw (c, first) (next (s .accepted) len)) (rw c (omega arith))))
+
+  way : (n : ℕ) (s : Seen) (work : List ℕ) → Inv p s work → First s → left s ≡ n → Way p pixels (runAt p s work)
+  unfolding left
+  way zero s work v first e = arrived s work v first (omega (arith, most s work v first)) (omega arith)
+  way (suc n) s work v first e = by (way n) (le-or-lt (R p (s .accepted)) (s .taken)) (le-or-lt (p .source .height) (s .accepted))
+    where
+      by : ((s : Seen) (work : List ℕ) → Inv p s work → First s → left s ≡ n → Way p pixels (runAt p s work))
+          → (R p (s .accepted) ≤ s .taken) ⊎ (s .taken < R p (s .accepted)) → (p .source .height ≤ s .accepted) ⊎ (s .accepted < p .source .height) → Way p pixels (runAt p s work)
+      by ih (inr a) b = by-take s work v first n ih e a
+      by ih (inl a) (inr b) = by-offer s work v first n ih e a b
+      by ih (inl a) (inl b) = arrived s work v first a b
 
 pub some-list : (p : Plan) (work : List ℕ) → startNumber p (length work) ≡ 0 → (pixels : List ℕ) → length pixels ≡ pictureBytes (p .source .width) (p .source .height)
     → (calls : List Call) × Reached p work pixels calls
 unfolding left First
 some-list p work e pixels long =
     let o = Views.start-went p work e in
-    let w = way p pixels long _ nothing _ (begun-inv p work o) (ap (λ (n : ℕ). take n pixels) (let q : 0 ≡ rowBytes (p .source .width) * 0 = omega arith in q)) refl in
-    let is : begun p work ≡ runAt p nothing (_) = ap (λ (x : List ℕ). runAt p nothing x) (o .work-after) in
-    (w .calls, rw (o .work-after) (record { none-refused = w .none-refused; source = w .source; accepted = w .accepted; taken = w .taken }))
+    let w = way p pixels long _ nothing _ (begun-inv p work o) (ap (λ (n : ℕ). take n pixels) (let q : 0 ≡ rowBytes (p .source .width) * 0 = omega arith in q)) refl in (
+      w .calls,
+      record {
+        none-refused = rw (o .work-after) (w .none-refused);
+        source = rw (o .work-after) (w .source);
+        accepted = rw (o .work-after) (w .accepted);
+        taken = rw (o .work-after) (w .taken);
+      },
+    )

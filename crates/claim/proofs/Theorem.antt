@@ -30,7 +30,8 @@ use Rattle.claim.specs.Calls.{Call, Offer, Take, Seen, Run, step, run, b
 use Rattle.claim.specs.Claim.{RightTake, RightOffer, Ready, Smallest, Claim, Reached, Demand3}
 use Rattle.claim.proofs.Taking.{alpha-near, colour-near}
 use Rattle.claim.proofs.Invariant.{jobAt, runAt, Inv, Kept, step-kept, run-kept, begun-kept, offer-leads, offer-kept, take-leads, take-kept, count-some, count-most, count-low, count-bytes, tookSeen}
--- use Rattle.claim.proofs.Whole.{crop-then-resize, crop-then-resize-flag}
+use Rattle.claim.proofs.Whole.{seen-whole, seen-whole-flag}
+use Rattle.claim.proofs.Reaching.{some-list}
 
 -- ---- the next call, by what was counted
 module _ (p : Plan) (s : Seen) (work : List ℕ) (v : Inv p s work) where
@@ -144,8 +145,6 @@ claimed p s work v =
     let bytes : ℕ → ℕ = λ i. getD (s .source) i 0 in
     let top : R p (s .accepted) ≤ p .target .height = rows-most (p .crop .y) (p .crop .height) (p .target .height) (v .rules .sizes .crop-height) (s .accepted) in
     let row-of : (y : ℕ) → y < s .taken → getD (s .rows) y [] ≡ rowOf p (λ i. getD (s .source) i 0) y = λ y l. v .handed (λ i. getD (s .source) i 0) (λ i h. refl) y l in
-    let all : s .accepted ≡ p .source .height → R p (p .source .height) ≡ p .target .height =
-    λ e. rows-all (p .crop .y) (p .crop .height) (p .target .height) (v .rules .sizes .crop-height) (p .source .height) (v .rules .sizes .bottom) in
     record {
       ready = (R p (s .accepted) - s .taken, ready-of p (R p (s .accepted) - s .taken) s work v (omega (arith, v .rules .high)), omega (arith, v .rules .high));
       ready-only = λ n. ready-only p n s work v;
@@ -167,6 +166,15 @@ claimed p s work v =
       flag = v .flagged;
       near-alpha = λ premise y l i inside. rw (row-of y l) (alpha-near p bytes y i inside (v .rules .sizes) (omega (arith, v .rules .high)) premise);
       near-colour = λ premise y l i inside. rw (row-of y l) (colour-near p bytes y i inside (v .rules .sizes) (omega (arith, v .rules .high)) premise);
-      whole = ?;
-      whole-flag = ?;
+      whole = λ e f. seen-whole p (runAt p s work) (v .rules .sizes) (v .bytes) (v .outs) row-of e f;
+      whole-flag = λ e f. seen-whole-flag p (runAt p s work) (v .rules .sizes) (v .bytes) (v .outs) row-of e f (v .flagged);
     }
+
+-- DEMAND 3
+pub demand-3 : Demand3
+demand-3 = record {
+  every-list = λ p work accepted calls.
+      let k = run-kept p calls (begun p work) (begun-kept p work accepted) in
+      rw (k .is) (claimed p (k .seen) (k .work) (k .inv));
+  some-list = some-list;
+}
