@@ -5,7 +5,6 @@ use mathlib.Core.Path.{_≡_, refl, sym, ap, ap₂, _∙_}
 use mathlib.Core.List.{List, [], _∷_, _++_}
 use native.Mathlib.Omega.{arith}
 use native.Mathlib.Nat.{add-zero}
-use borrow.Author.Tests.{eq-eqb, ne-eqb}
 use lib.ListN.{length, getD, take, drop}
 use Rattle.arithmetic.specs.Matte.{laneOf}
 use Rattle.arithmetic.specs.Table.{tabulate}
@@ -16,6 +15,7 @@ use Rattle.pixels.specs.declared.Refusal.the-variants.{OutputLength}
 use Rattle.pixels.specs.Refusals.{number}
 use Rattle.pixels.specs.Sizes.{lanes}
 use Rattle.pixels.specs.Layout.{placeOf, wordOf, laneAt, pixelAt, unpacked, packed, unpackedPixels, packedByte, packedPixels, packNumber, unpackNumber}
+use Rattle.pixels.proofs.Numbers.{length-refused, length-passes}
 use Rattle.pixels.proofs.Stretches.{stretch, tabulate-add}
 use Rattle.pixels.proofs.Tabled.{each-lane, place-lt, place-twice}
 
@@ -95,19 +95,19 @@ packed-length l n = length-tabulate _ lanes
 -- ---- the output's length
 pub pack-refused : (n m : ℕ) → (m ≡ lanes * n → ⊥) → packNumber n m ≡ number OutputLength
 unfolding packNumber
-pack-refused n m h = simp (ne-eqb m (lanes * n) h)
+pack-refused n m h = length-refused OutputLength m (lanes * n) h
 
 pub pack-passes : (n m : ℕ) → m ≡ lanes * n → packNumber n m ≡ 0
 unfolding packNumber
-pack-passes n m h = simp (eq-eqb m (lanes * n) h)
+pack-passes n m h = length-passes OutputLength m (lanes * n) h
 
 pub unpack-refused : (n m : ℕ) → (m ≡ n / lanes → ⊥) → unpackNumber n m ≡ number OutputLength
 unfolding unpackNumber
-unpack-refused n m h = simp (ne-eqb m (n / lanes) h)
+unpack-refused n m h = length-refused OutputLength m (n / lanes) h
 
 pub unpack-passes : (n m : ℕ) → m ≡ n / lanes → unpackNumber n m ≡ 0
 unfolding unpackNumber
-unpack-passes n m h = simp (eq-eqb m (n / lanes) h)
+unpack-passes n m h = length-passes OutputLength m (n / lanes) h
 
 -- ---- round trips. A lane of packed pixels is the pixel's lane.
 pub packed-lane : (l : PixelLayout) (argb : List ℕ) (i k : ℕ) → i < length argb → k < lanes → laneAt l (packedPixels l argb) i k ≡ laneOf (getD argb i 0) k
