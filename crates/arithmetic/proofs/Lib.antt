@@ -4,3 +4,4 @@ pub mod Words
 pub mod Sums
 pub mod Tables
 pub mod FixedPoints
+pub mod Mattes
