@@ -7,3 +7,4 @@ pub mod Flags
 pub mod Windows
 pub mod Planes
 pub mod Pictures
+pub mod Matted
