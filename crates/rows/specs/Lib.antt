@@ -3,3 +3,5 @@ pub mod Output
 pub mod WorkRows
 pub mod Closed
 pub mod Mean
+pub mod Lanes
+pub mod Import
