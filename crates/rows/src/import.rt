@@ -162,7 +162,16 @@ struct Column {
 }
 
 // One column from pixel x on; `debt` parts out of m were taken from the pixel before for the carry.
-fn make_column(row: &[u8], n: usize, m: usize, scale: u32, x: usize, debt: usize, carry: Quad, p: Places) -> Column
+fn make_column(
+    row: &[u8],
+    n: usize,
+    m: usize,
+    scale: u32,
+    x: usize,
+    debt: usize,
+    carry: Quad,
+    p: Places,
+) -> Column
     requires { ⌜ ColumnAsks (now row) n m x debt carry p ⌝ }
     ensures { λ r. ⌜ Columns (now (row .entry)) n m scale x debt carry p (r .value) (r .carry) (r .next) (r .debt) ⌝ }
 {

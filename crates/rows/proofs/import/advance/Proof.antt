@@ -10,7 +10,6 @@ use Rattle.pixels.specs.declared.Places.{Places}
 use Rattle.rows.specs.declared.import.Quad.{Quad}
 use Rattle.rows.specs.Import.{at, Four, laneBytes, PixelAsks, Stands, AdvanceAsks, Advances}
 use Rattle.rows.proofs.Lanes.{each, lane-byte}
-
 use borrow.Author.Needs.{needs}
 use Rattle.rows.proofs.import.advance.Statement.{statement}
 use Rattle.rows.proofs.import.advance.Tie as tie

@@ -23,11 +23,11 @@ mult-fix-requires c κs = search needs
 
 returns : tie.Need-returns
 returns c = record {
-      value-is =
-          wrapSub-is _ _ _ (omega (arith, (c .before .wrapping-sub-u32) .ok)) (omega (arith, (c .before .before .wrapping-mul2) .ok)) (omega (arith, (c .before .before .before .wrapping-mul) .ok)) ((c .before .wrapping-sub-u32) .ensures)
-          ∙ ap₂ (λ (a b : ℕ). wrapSub a b) ((c .before .before .wrapping-mul2) .ensures) ((c .before .before .before .wrapping-mul) .ensures);
-      carry-is = (c .mult-fix) .ensures ∙ ap (λ (a : ℕ). MULT a ((c .before .before .before .before .args) .scale)) ((c .before .before .before .wrapping-mul) .ensures);
-    }
+  value-is =
+      wrapSub-is _ _ _ (omega (arith, (c .before .wrapping-sub-u32) .ok)) (omega (arith, (c .before .before .wrapping-mul2) .ok)) (omega (arith, (c .before .before .before .wrapping-mul) .ok)) ((c .before .wrapping-sub-u32) .ensures)
+      ∙ ap₂ (λ (a b : ℕ). wrapSub a b) ((c .before .before .wrapping-mul2) .ensures) ((c .before .before .before .wrapping-mul) .ensures);
+  carry-is = (c .mult-fix) .ensures ∙ ap (λ (a : ℕ). MULT a ((c .before .before .before .before .args) .scale)) ((c .before .before .before .wrapping-mul) .ensures);
+}
 
 pub finish-spec : {M : Type 1} → statement M
 finish-spec =

@@ -18,7 +18,6 @@ use Rattle.rows.proofs.Lanes.{each, three, byte-byte, matted-byte}
 use Rattle.rows.proofs.import.gather.Statement.{statement}
 use Rattle.rows.proofs.import.gather.Tie as tie
 
-
 -- one lane so far
 record LaneInv (p : ℕ → ℕ) (from x total last : ℕ) : Type 0 where
   sum-is : total ≡ sum p from (x - from)

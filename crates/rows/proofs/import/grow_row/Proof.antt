@@ -91,7 +91,7 @@ module _ {s half₀ half : List ℕ} {n m : ℕ} {p : Places} {left right : Quad
         let q : ℕ → ℕ → ℕ = laneBytes p s in
         let here : acc' + j * (n - 1) ≡ suc x' * (m - 1) = omega (arith, i .along, w .along) in
         let one : (k : ℕ) → at left' k ≡ q k x' → (suc x' < n → at right' k ≡ q k (suc x')) → at right' k ≤ 255
-            → at v k ≡ wrapAdd (wrapMul (at left' k) acc') (wrapMul (at right' k) ((m - 1) - acc')) → at v k ≡ value (q k) n m j =
+        → at v k ≡ wrapAdd (wrapMul (at left' k) acc') (wrapMul (at right' k) ((m - 1) - acc')) → at v k ≡ value (q k) n m j =
         λ k. lane-grown (q k) (lane-byte s (a .bytes) p k) n m j x' acc' (at left' k) (at right' k) (at v k) grows (a .m-small) t here (w .small) (st .inside) in
         let values : Four (λ k. at v k ≡ value (q k) n m j) =
         record {

@@ -58,7 +58,7 @@ column-of {s} {n} {m} {scale} {x} {debt} {alpha} {base} {next} {got} {over} {car
     let made : next * m + debt ≡ x * m + n + over = omega arith in
     let lane : Four (λ k. Lane (laneBytes p s k) x next (at t k) (at l k)) = ordered (a .places) g ti li in
     let one : (k : ℕ) → at carry k ≤ 255 → Lane (laneBytes p s k) x next (at t k) (at l k) → at sum k ≡ wrapAdd (at carry k) (at t k)
-        → Finished m scale over (at sum k) (at l k) (at value k) (at carry' k) → LaneColumn (laneBytes p s k) m scale x next over (at carry k) (at value k) (at carry' k) =
+    → Finished m scale over (at sum k) (at l k) (at value k) (at carry' k) → LaneColumn (laneBytes p s k) m scale x next over (at carry k) (at value k) (at carry' k) =
     λ k. lane-column (laneBytes p s k) (lane-byte s (a .bytes) p k) n m x next debt over (a .m-small) (a .n-small) (g .more) small made scale (at carry k) (at t k) (at l k) (at sum k) (at value k) (at carry' k) in
     record {
       made = made;
