@@ -27,10 +27,6 @@ hasAlpha layout s n = someClear (alphaAt layout s) n
 unfoldable pub argbHasAlpha : List ℕ → Bool
 argbHasAlpha argb = someClear (λ i. laneOf (getD argb i 0) alphaLane) (length argb)
 
--- the flag where the number is 0; a refusal has none
-abbrev pub flagIf : ℕ → Bool → Bool
-flagIf n flag = cond (eqb n 0) flag false
-
 -- ---- a picture of its size in n bytes: 1, then 3
 unfoldable pub pictureNumber : Dimensions → ℕ → ℕ
 pictureNumber size n =

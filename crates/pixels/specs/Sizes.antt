@@ -6,7 +6,7 @@ use Rattle.arithmetic.specs.Quotient.{ceil}
 use Rattle.pixels.specs.declared.Dimensions.{Dimensions}
 use Rattle.pixels.specs.declared.Rect.{Rect}
 use Rattle.pixels.specs.declared.Refusal.the-variants.{InvalidDimensions, CropOutOfBounds}
-use Rattle.pixels.specs.Refusals.{refusedIf, firstOf, noSize}
+use Rattle.pixels.specs.Refusals.{refusedIf, firstOf}
 
 -- the largest side
 abbrev pub maxSide : ℕ
@@ -32,18 +32,18 @@ abbrev pub workValues : ℕ → ℕ
 workValues m = 2 * halfValues m
 
 -- "a source or target side is 0 or above 16,384"
-abbrev pub badSide : ℕ → Bool
+unfoldable pub badSide : ℕ → Bool
 badSide side = eqb side 0 || ltb maxSide side
 
-abbrev pub badSize : Dimensions → Bool
+unfoldable pub badSize : Dimensions → Bool
 badSize size = badSide (size .width) || badSide (size .height)
 
 -- "the crop is empty"
-abbrev pub emptyCrop : Rect → Bool
+unfoldable pub emptyCrop : Rect → Bool
 emptyCrop crop = eqb (crop .width) 0 || eqb (crop .height) 0
 
 -- "crop's right or bottom edge beyond the picture"; "Edges are summed without wrapping"
-abbrev pub cropBeyond : Rect → Dimensions → Bool
+unfoldable pub cropBeyond : Rect → Dimensions → Bool
 cropBeyond crop size = ltb (size .width) (crop .x + crop .width) || ltb (size .height) (crop .y + crop .height)
 
 -- number 1 of one size, 0 where it passes
@@ -74,19 +74,22 @@ pub record Fits (source : Dimensions) (crop : Rect) (target : Dimensions) : Type
 abbrev pub sizeOf : ℕ → ℕ → Dimensions
 sizeOf w h = record { width = w; height = h }
 
--- the size itself, where it passes
-unfoldable pub sizedAs : Dimensions → Dimensions
-sizedAs size = cond (badSize size) noSize size
+abbrev pub rectOf : ℕ → ℕ → ℕ → ℕ → Rect
+rectOf x y w h = record { x = x; y = y; width = w; height = h }
 
--- "width 0 becomes ceil(w×height/h), then height 0 becomes ceil(h×width/w)", w and h the sides of the source
-unfoldable pub scaledWidth : Dimensions → ℕ → ℕ → ℕ
-scaledWidth source width height = cond (eqb width 0) (ceil (source .width * height) (source .height)) width
+-- a side as asked; one of 0 is derived from the other, in the ratio of the source's own side and the side across: "ceil(w×height/h)"
+unfoldable pub derivedSide : ℕ → ℕ → ℕ → ℕ → ℕ
+derivedSide own across side other = cond (eqb side 0) (ceil (own * other) across) side
 
-unfoldable pub scaledHeight : Dimensions → ℕ → ℕ → ℕ
+-- "width 0 becomes ceil(w×height/h), then height 0 becomes ceil(h×width/w)"
+abbrev pub scaledWidth : Dimensions → ℕ → ℕ → ℕ
+scaledWidth source width height = derivedSide (source .width) (source .height) width height
+
+abbrev pub scaledHeight : Dimensions → ℕ → ℕ → ℕ
 scaledHeight source width height =
-    cond (eqb height 0) (ceil (source .height * scaledWidth source width height) (source .width)) height
+    derivedSide (source .height) (source .width) height (scaledWidth source width height)
 
-unfoldable pub scaledSize : Dimensions → ℕ → ℕ → Dimensions
+abbrev pub scaledSize : Dimensions → ℕ → ℕ → Dimensions
 scaledSize source width height = sizeOf (scaledWidth source width height) (scaledHeight source width height)
 
 -- "both 0, or a side above 16,384, gives 1", of the source too; both 0 gives sides of 0
