@@ -1,18 +1,26 @@
 // A row comes in (document 01; the Rust: Rescaler::import_row of geometry.rs, libwebp's WebPRescalerImportRowShrink_C and
 // WebPRescalerImportRowExpand_C): matted as its bytes are read, the four lanes at once. Work values wrap.
+use crate::Done;
 use arithmetic::frac;
 use arithmetic::matte;
 use arithmetic::mult_fix;
 use arithmetic::wrapping_mul;
+use pixels::MAX_DIMENSION;
+use pixels::PixelLayout;
 use pixels::Places;
+use pixels::Refusal;
 use std::num::wrapping_add_u32;
 use std::num::wrapping_sub_u32;
 ghost use mathlib.Core.Path.{_≡_};
 ghost use Prim.Native.Nat.{ℕ, _+_, _*_, _/_, _≤_, _<_};
 ghost use lib.ListN.{length, set};
 ghost use Rattle.arithmetic.specs.Word.{wrapAdd, wrapMul};
-ghost use Rattle.pixels.specs.Sizes.{lanes, halfValues};
-ghost use Rattle.rows.specs.WorkRows.{written};
+ghost use Rattle.pixels.specs.Sizes.{lanes, halfValues, badSide};
+ghost use Rattle.pixels.specs.Refusals.{bufferIf};
+ghost use Rattle.pixels.specs.Lanes.{matted};
+ghost use Rattle.rows.specs.Done.{doneNumber};
+ghost use Rattle.rows.specs.Incoming.{importNumber, addNumber};
+ghost use Rattle.rows.specs.WorkRows.{written, added};
 ghost use Rattle.rows.specs.Lanes.{rowValue};
 ghost use Rattle.rows.specs.Import.{at, Four, laneBytes, mattedAt, PixelAsks, Within, InLanes, GatherAsks, Gathers, Finished, ColumnAsks, Columns, RowAsks, Second, AdvanceAsks, Advances};
 
@@ -326,4 +334,83 @@ fn grow_row(row: &[u8], n: usize, m: usize, p: Places, half: &mut [u32])
         put4(half, j, v);
         j += 1;
     }
+}
+
+// Every column, either way.
+fn write_row(row: &[u8], n: usize, m: usize, p: Places, half: &mut [u32])
+    requires { ⌜ RowAsks (now row) (now half) n m p ⌝ }
+    ensures { λ _. ⌜ now (half .exit) ≡ written (halfValues m) (rowValue (laneBytes p (now (row .entry))) n m) (now (half .entry)) ⌝ }
+{
+    if m <= n {
+        shrink_row(row, n, m, p, half);
+        return;
+    }
+    grow_row(row, n, m, p, half);
+}
+
+fn bad_width(width: u32) -> bool
+    ensures { λ r. ⌜ r ≡ badSide width ⌝ }
+{
+    if width == 0 {
+        return true;
+    }
+    width > MAX_DIMENSION
+}
+
+// One row of the crop, matted as it is read, into a half. A row as wide as the target goes the same way: matting changes it.
+// Rules out: a carry rounded down; a row of the crop's width copied as it is; two lanes exchanged; sums that saturate.
+pub fn import_row(
+    layout: PixelLayout,
+    crop_width: u32,
+    target_width: u32,
+    row: &[u8],
+    half: &mut [u32],
+) -> Done
+    ensures number { λ r. ⌜ doneNumber r ≡ importNumber «crop_width» «target_width» (length (now (row .entry))) (length (now (half .entry))) ⌝ }
+    ensures half { λ _. ⌜ now (half .exit) ≡ bufferIf (importNumber «crop_width» «target_width» (length (now (row .entry))) (length (now (half .entry)))) (written (halfValues «target_width») (rowValue (matted layout (now (row .entry))) «crop_width» «target_width») (now (half .entry))) (now (half .entry)) ⌝ }
+{
+    if bad_width(crop_width) {
+        return Done::Refused(Refusal::InvalidDimensions);
+    }
+    if bad_width(target_width) {
+        return Done::Refused(Refusal::InvalidDimensions);
+    }
+    let n = crop_width as usize;
+    let m = target_width as usize;
+    if row.len() != 4 * n {
+        return Done::Refused(Refusal::PixelBufferMismatch);
+    }
+    if half.len() < 4 * m {
+        return Done::Refused(Refusal::WorkLength);
+    }
+    write_row(row, n, m, layout.places(), half);
+    Done::Done
+}
+
+fn add_to_first(work: &mut [u32], w: usize)
+    requires { ⌜ w + w ≤ length (now work) ⌝ }
+    ensures { λ _. ⌜ now (work .exit) ≡ added w (now (work .entry)) ⌝ }
+{
+    let mut k = 0usize;
+    while k < w {
+        work[k] = wrapping_add_u32(work[k], work[w + k]);
+        k += 1;
+    }
+}
+
+// The second half added to the first, modulo 2^32; the second stays.
+// Rules out: a sum that saturates; the last value left out; the sum put into the second half.
+pub fn add_halves(target_width: u32, work: &mut [u32]) -> Done
+    ensures number { λ r. ⌜ doneNumber r ≡ addNumber «target_width» (length (now (work .entry))) ⌝ }
+    ensures work { λ _. ⌜ now (work .exit) ≡ bufferIf (addNumber «target_width» (length (now (work .entry)))) (added (halfValues «target_width») (now (work .entry))) (now (work .entry)) ⌝ }
+{
+    if bad_width(target_width) {
+        return Done::Refused(Refusal::InvalidDimensions);
+    }
+    let w = 4 * target_width as usize;
+    if work.len() < 2 * w {
+        return Done::Refused(Refusal::WorkLength);
+    }
+    add_to_first(work, w);
+    Done::Done
 }

@@ -1,14 +1,12 @@
 -- One column on, in the same pair of pixels or the next pair. Assumes nothing.
-use Prim.Native.Nat.{ℕ, suc, _+_, _-_, _*_, _/_, _≤_, _<_}
-use mathlib.Core.Path.{_≡_, refl, sym, ap, _∙_}
+use Prim.Native.Nat.{ℕ, suc, _+_, _-_, _<_}
+use mathlib.Core.Path.{_≡_, sym, ap, _∙_}
 use mathlib.Core.List.{List}
 use native.Mathlib.Omega.{arith}
 use native.Mathlib.Numerals.{add-one}
-use lib.ListN.{length}
-use Rattle.pixels.specs.Sizes.{lanes}
 use Rattle.pixels.specs.declared.Places.{Places}
 use Rattle.rows.specs.declared.import.Quad.{Quad}
-use Rattle.rows.specs.Import.{at, Four, laneBytes, PixelAsks, Stands, AdvanceAsks, Advances}
+use Rattle.rows.specs.Import.{at, Four, laneBytes, PixelAsks, AdvanceAsks, Advances}
 use Rattle.rows.proofs.Lanes.{each, lane-byte}
 use borrow.Author.Needs.{needs}
 use Rattle.rows.proofs.import.advance.Statement.{statement}

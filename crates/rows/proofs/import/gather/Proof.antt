@@ -1,17 +1,14 @@
 -- `gather`: after each pixel the sums are those of the pixels so far, and got × 1 of them make the parts wanted. Bytes, so no sum wraps.
 -- Assumes nothing.
-use Prim.Native.Nat.{ℕ, zero, suc, _+_, _-_, _*_, _/_, _^_, _≤_, _<_}
+use Prim.Native.Nat.{ℕ, _+_, _-_, _*_, _≤_, _<_}
 use mathlib.Core.Path.{_≡_, refl, sym, ap, ap₂, _∙_}
 use mathlib.Core.List.{List}
 use native.Mathlib.Omega.{arith}
 use native.Mathlib.Nat.{lt-of-mul-lt-mul-right, mul-le-mul}
-use borrow.Author.Needs.{needs}
-use lib.ListN.{length, getD}
 use Rattle.arithmetic.specs.Word.{wrapAdd}
 use Rattle.arithmetic.specs.Sum.{sum}
 use Rattle.arithmetic.proofs.Words.{wrapAdd-exact}
 use Rattle.arithmetic.proofs.Sums.{sum-step, sum-none-yet, sum-most}
-use Rattle.pixels.specs.Sizes.{lanes}
 use Rattle.rows.specs.declared.import.Quad.{Quad}
 use Rattle.rows.specs.Import.{at, Four, byteAt, mattedAt, Lane, GatherAsks, Gathers}
 use Rattle.rows.proofs.Lanes.{each, three, byte-byte, matted-byte}

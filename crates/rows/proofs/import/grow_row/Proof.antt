@@ -1,10 +1,9 @@
 -- `grow_row`: column after column. acc parts of the left pixel are unused by the columns made, and the next column uses n - 1 of them. Assumes nothing.
-use Prim.Native.Nat.{ℕ, zero, suc, _+_, _-_, _*_, _/_, _≤_, _<_}
-use mathlib.Core.Path.{_≡_, refl, sym, ap, _∙_}
+use Prim.Native.Nat.{ℕ, suc, _+_, _-_, _*_, _/_, _≤_, _<_}
+use mathlib.Core.Path.{_≡_, refl, ap, _∙_}
 use mathlib.Core.List.{List}
 use native.Mathlib.Omega.{arith}
 use native.Mathlib.Nat.{mul-le-mul-right, lt-of-mul-lt-mul-right}
-use borrow.Author.Needs.{needs}
 use lib.ListN.{length, set}
 use Rattle.arithmetic.specs.Word.{wrapAdd, wrapMul}
 use Rattle.arithmetic.specs.Table.{tabulate}
@@ -16,7 +15,7 @@ use Rattle.rows.specs.WorkRows.{written}
 use Rattle.rows.specs.Lanes.{rowValue}
 use Rattle.rows.specs.Import.{at, Four, laneBytes, PixelAsks, Second, Stands, AdvanceAsks, Advances, RowAsks}
 use Rattle.rows.proofs.Columns.{lane-grown}
-use Rattle.rows.proofs.Lanes.{each, every, lane-byte, row-values, put-four, written-length}
+use Rattle.rows.proofs.Lanes.{each, lane-byte, row-values, put-four, written-length}
 use Rattle.rows.proofs.import.grow_row.Statement.{statement}
 use Rattle.rows.proofs.import.grow_row.Tie as tie
 

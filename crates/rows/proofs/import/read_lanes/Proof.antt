@@ -1,3 +1,4 @@
+-- `read_lanes`: what is read is laneBytes by definition. Assumes nothing.
 use mathlib.Core.Path.{refl}
 use Rattle.rows.specs.Import.{byteAt, mattedAt, laneBytes}
 use Prim.Native.Nat.{_+_, _*_}
