@@ -4,3 +4,6 @@ pub mod WorkRows
 pub mod Closed
 pub mod Mean
 pub mod Lanes
+pub mod Done
+pub mod Incoming
+pub mod Import
