@@ -3,3 +3,4 @@ pub mod Output
 pub mod WorkRows
 pub mod Closed
 pub mod Mean
+pub mod Export

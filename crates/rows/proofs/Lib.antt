@@ -1,0 +1,5 @@
+pub mod Clamps
+pub mod Stores
+pub mod Factors
+pub mod Shrinks
+pub mod Grows
