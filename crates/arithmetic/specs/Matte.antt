@@ -8,12 +8,19 @@ use lib.Bits.{bitOr}
 unfoldable pub laneOf : ℕ → ℕ → ℕ
 laneOf argb k = argb / 2 ^ (8 * k) % 256
 
--- the factor k of alpha a: 65793 × alpha to matte, 255 × 2^24 / alpha to restore
+-- the pixel AARRGGBB whose lane k is p k
+unfoldable pub pixelOf : (ℕ → ℕ) → ℕ
+pixelOf p = p 0 + 2 ^ 8 * p 1 + 2 ^ 16 * p 2 + 2 ^ 24 * p 3
+
+-- "with k = 65793 × alpha (matte) or 255 × 2^24 / alpha (restore)"
 unfoldable pub matteFactor : ℕ → ℕ
 matteFactor a = 65793 * a
 
 unfoldable pub restoreFactor : ℕ → ℕ
 restoreFactor a = 255 * 2 ^ 24 / a
+
+unfoldable pub factorOf : Bool → ℕ → ℕ
+factorOf inverse a = cond inverse (restoreFactor a) (matteFactor a)
 
 -- "each colour c becomes (c × k + 2^23) / 2^24"
 unfoldable pub scaleColour : ℕ → ℕ → ℕ
@@ -27,7 +34,7 @@ orOnto a b g r = bitOr (bitOr (bitOr (a * 2 ^ 24) b) (g * 2 ^ 8)) (r * 2 ^ 16)
 unfoldable pub multArgb : ℕ → Bool → ℕ
 multArgb argb inverse =
     let a : ℕ = laneOf argb 3 in
-    let k : ℕ = cond inverse (restoreFactor a) (matteFactor a) in
+    let k : ℕ = factorOf inverse a in
     cond (eqb a 255) argb
     (cond (eqb a 0) 0
     (orOnto a (scaleColour (laneOf argb 0) k) (scaleColour (laneOf argb 1) k) (scaleColour (laneOf argb 2) k)))

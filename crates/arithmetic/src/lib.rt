@@ -1,5 +1,9 @@
 // Fixed-point arithmetic of libwebp's rescaler (document 01, "Fixed point and matting"; the Rust: geometry.rs).
 // Every function answers for all arguments.
+mod matting;
+
+pub use matting::matte;
+pub use matting::mult_argb;
 ghost use mathlib.Core.Path.{_≡_};
 ghost use Rattle.arithmetic.specs.Word.{wrapMul};
 ghost use Rattle.arithmetic.specs.FixedPoint.{MULT, FLOOR, FRAC};
