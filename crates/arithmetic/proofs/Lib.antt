@@ -6,3 +6,4 @@ pub mod Sums
 pub mod Tables
 pub mod Weights
 pub mod FixedPoints
+pub mod Mattes
