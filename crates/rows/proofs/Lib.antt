@@ -3,3 +3,5 @@ pub mod Stores
 pub mod Factors
 pub mod Shrinks
 pub mod Grows
+pub mod Dues
+pub mod Scalings
