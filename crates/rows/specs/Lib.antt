@@ -7,3 +7,5 @@ pub mod Lanes
 pub mod Done
 pub mod Incoming
 pub mod Import
+pub mod Scaling
+pub mod Export
