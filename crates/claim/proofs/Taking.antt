@@ -12,7 +12,7 @@ use Rattle.arithmetic.specs.Table.{tabulate}
 use Rattle.arithmetic.proofs.Tables.{length-tabulate, getD-tabulate, tabulate-cong}
 use Rattle.pixels.specs.declared.PixelLayout.{PixelLayout}
 use Rattle.pixels.specs.Sizes.{lanes, rowBytes, halfValues, workValues, Fits}
-use Rattle.pixels.specs.Layout.{placeOf, alphaLane, wordOf, packedByte}
+use Rattle.pixels.specs.Layout.{placeOf, alphaLane, packedByte}
 use Rattle.pixels.specs.Lanes.{restoredPixel, restoredPlace}
 use Rattle.pixels.proofs.Tabled.{place-lt, place-twice}
 use Rattle.schedule.specs.Schedule.{used, needed}
@@ -30,7 +30,8 @@ use Rattle.job.specs.declared.Job.{Job}
 use Rattle.job.specs.Record.{R, Rules}
 use Rattle.job.specs.Calls.{usedBy, rowTaken, workTaken}
 use Rattle.claim.specs.Rows.{sourceByte, mattedByte, scaledLane, rowOf}
-use Rattle.claim.proofs.Reading.{cropValue, cropValue-word, matted-small, word-cong, restored-cong}
+use Rattle.job.proofs.Restoring.{word-cong, restored-cong}
+use Rattle.claim.proofs.Reading.{cropValue, cropValue-word, matted-small}
 use Rattle.claim.proofs.Feeding.{Holds}
 
 -- ---- a take: the row that goes out, and what is left
@@ -96,7 +97,7 @@ module _ (p : Plan) (b : ℕ → ℕ) (y i : ℕ) (inside : i < p .target .width
 
     matted-picture : Matted (p .crop .width) (p .crop .height) (mattedByte p b)
     unfolding mattedByte
-    matted-picture = matte-matted (p .crop .width) (p .crop .height) (λ c i'. wordOf (sourceByte p b c i'))
+    matted-picture = matte-matted (p .crop .width) (p .crop .height) (λ c i'. pixelOf (sourceByte p b c i'))
 
     pub alpha-near : Near (getD (rowOf p b y) (lanes * i + placeOf (p .layout) alphaLane) 0) (exactSum (p .crop .width) (p .target .width) (p .crop .height) (p .target .height) (mattedByte p b alphaLane) i y) (total (p .crop .width) (p .target .width) (p .crop .height) (p .target .height))
     alpha-near =

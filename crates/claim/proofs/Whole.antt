@@ -30,7 +30,8 @@ use Rattle.job.specs.declared.Plan.{Plan}
 use Rattle.job.specs.Record.{R}
 use Rattle.claim.specs.Rows.{sourceByte, mattedByte, scaledLane, rowOf, joined, rowsOf, resizePlan, resized, resizedFlag}
 use Rattle.claim.specs.Calls.{Run}
-use Rattle.claim.proofs.Reading.{value-cong, word-cong, window-byte, restored-cong}
+use Rattle.job.proofs.Restoring.{word-cong, restored-cong}
+use Rattle.claim.proofs.Reading.{value-cong, window-byte}
 use Rattle.claim.proofs.Feeding.{row-length, row-byte}
 use Rattle.claim.proofs.Flagged.{joined-append}
 
