@@ -12,7 +12,7 @@ use Rattle.pixels.specs.declared.Refusal.{Refusal}
 use Rattle.pixels.specs.declared.Refusal.the-variants.{InvalidDimensions, CropOutOfBounds, PixelBufferMismatch, OutputLength, WorkLength, InvalidRecord, RowReady, AllAccepted, NoneReady}
 use Rattle.pixels.specs.declared.Checked.{Checked}
 use Rattle.pixels.specs.declared.Checked.the-variants.{Fit, Refused}
-use Rattle.pixels.specs.Refusals.{number, firstOf, checkedNumber, noSize, sizeIf, flagIf}
+use Rattle.pixels.specs.Refusals.{number, refusedIf, firstOf, checkedNumber, noSize, sizeIf, flagIf, bufferIf}
 
 -- the cause of a number
 unfoldable named : ℕ → Refusal
@@ -79,3 +79,16 @@ flagged-refused why n b e = (sym e, simp (not-zero why n e))
 
 pub flagged-accepted : (n : ℕ) (b : Bool) → n ≡ 0 → (0 ≡ n) × (b ≡ flagIf n b)
 flagged-accepted n b e = (sym e, simp e)
+
+pub buffer-refused : (why : Refusal) (n : ℕ) (w k : List ℕ) → n ≡ number why → (number why ≡ n) × (k ≡ bufferIf n w k)
+buffer-refused why n w k e = (sym e, simp (not-zero why n e))
+
+pub buffer-written : (n : ℕ) {out : List ℕ} (w k : List ℕ) → n ≡ 0 → out ≡ w → (0 ≡ n) × (out ≡ bufferIf n w k)
+buffer-written n w k e f = (sym e, simp e f)
+
+-- a cause that applies, and one that does not
+pub refused-number : (why : Refusal) (b : Bool) → b ≡ true → refusedIf b why ≡ number why
+refused-number why b e = simp e
+
+pub refused-none : (why : Refusal) (b : Bool) → b ≡ false → refusedIf b why ≡ 0
+refused-none why b e = simp e

@@ -1,6 +1,7 @@
 -- Why a call is turned away: document 01's table, the number of each cause, and the number and the values of each answer. Assumes nothing.
 use Prim.Native.Nat.{ℕ}
 use mathlib.Core.Bool.{Bool, false, cond}
+use mathlib.Core.List.{List}
 use lib.Dec.{eqb}
 use Rattle.pixels.specs.declared.Dimensions.{Dimensions}
 use Rattle.pixels.specs.declared.Refusal.{Refusal}
@@ -65,3 +66,7 @@ flaggedFlag (flagged.Refused why) = false
 -- the flag of an answer with the number n
 abbrev pub flagIf : ℕ → Bool → Bool
 flagIf n flag = cond (eqb n 0) flag false
+
+-- a buffer after a call with the number n: what was written, or as it was
+abbrev pub bufferIf : ℕ → List ℕ → List ℕ → List ℕ
+bufferIf n written kept = cond (eqb n 0) written kept

@@ -1,0 +1,50 @@
+-- Each byte is the lane that the table has at its place. Assumes nothing.
+use Rattle.pixels.proofs.Tabled.{place-lt}
+use Rattle.pixels.specs.Layout.{packed}
+use Rattle.arithmetic.specs.Table.{tabulate}
+use native.Mathlib.Omega.{arith}
+use borrow.Author.Needs.{needs}
+use Rattle.pixels.proofs.PixelLayout.pack.Statement.{statement}
+use Rattle.pixels.proofs.PixelLayout.pack.Tie as tie
+
+place-requires : tie.Need-place-requires
+place-requires c κs = search needs
+
+lane-requires : tie.Need-lane-requires
+lane-requires c κs = omega (arith, (c .place) .ensures, place-lt ((c .before .args) .self) 0 (omega arith))
+
+place-requires-2 : tie.Need-place-requires-2
+place-requires-2 c κs = search needs
+
+lane-requires-2 : tie.Need-lane-requires-2
+lane-requires-2 c κs = omega (arith, (c .place2) .ensures, place-lt ((c .before .before .before .args) .self) 1 (omega arith))
+
+place-requires-3 : tie.Need-place-requires-3
+place-requires-3 c κs = search needs
+
+lane-requires-3 : tie.Need-lane-requires-3
+lane-requires-3 c κs = omega (arith, (c .place3) .ensures, place-lt ((c .before .before .before .before .before .args) .self) 2 (omega arith))
+
+place-requires-4 : tie.Need-place-requires-4
+place-requires-4 c κs = search needs
+
+lane-requires-4 : tie.Need-lane-requires-4
+lane-requires-4 c κs = omega (arith, (c .place4) .ensures, place-lt ((c .before .before .before .before .before .before .before .args) .self) 3 (omega arith))
+
+returns : tie.Need-returns
+unfolding packed tabulate
+returns c = cc
+
+pub pack-spec : {M : Type 1} → statement M
+pack-spec =
+    tie.close
+    (tie.spec
+    place-requires
+    lane-requires
+    place-requires-2
+    lane-requires-2
+    place-requires-3
+    lane-requires-3
+    place-requires-4
+    lane-requires-4
+    returns)

@@ -1,0 +1,179 @@
+// Layouts (document 01, "Lanes"; the Rust: PixelLayout, pack_pixels, unpack_pixels, argb_has_alpha).
+use crate::Checked;
+use crate::PixelLayout;
+use crate::Places;
+use crate::Refusal;
+ghost use mathlib.Core.Path.{_≡_};
+ghost use mathlib.Core.List.{_++_};
+ghost use Prim.Native.Nat.{_+_, _*_, _/_, _^_, _≤_, _<_};
+ghost use lib.ListN.{length, take, drop};
+ghost use Rattle.arithmetic.specs.Matte.{laneOf};
+ghost use Rattle.pixels.specs.Refusals.{checkedNumber, bufferIf};
+ghost use Rattle.pixels.specs.Sizes.{lanes};
+ghost use Rattle.pixels.specs.Layout.{rowOf, placeOf, placesOf, alphaLane, packed, unpacked, packedPixels, unpackedPixels, packNumber, unpackNumber};
+ghost use Rattle.pixels.specs.Picture.{argbHasAlpha};
+
+// A row for each layout, in the order of PixelLayout: the place of the lanes B, G, R, A among a pixel's bytes. Each row is its own inverse, so it
+// also says which lane stands at each place.
+const LANES: [[usize; 4]; 3] = [[2, 1, 0, 3], [3, 2, 1, 0], [0, 1, 2, 3]];
+
+fn row(layout: PixelLayout) -> usize
+    ensures { λ r. ⌜ r ≡ rowOf layout ⌝ }
+{
+    match layout {
+        PixelLayout::Rgba8 => 0,
+        PixelLayout::Argb8 => 1,
+        PixelLayout::Bgra8 => 2,
+    }
+}
+
+fn place(layout: PixelLayout, k: usize) -> usize
+    requires { ⌜ k < lanes ⌝ }
+    ensures { λ r. ⌜ r ≡ placeOf layout k ⌝ }
+{
+    let i = row(layout);
+    LANES[i][k]
+}
+
+// Lane k of a pixel AARRGGBB, counted from the lowest byte.
+fn lane(argb: u32, k: usize) -> u8
+    requires { ⌜ k < lanes ⌝ }
+    ensures { λ r. ⌜ r ≡ laneOf argb k ⌝ }
+{
+    match k {
+        0 => (argb % 256) as u8,
+        1 => (argb / 256 % 256) as u8,
+        2 => (argb / 65536 % 256) as u8,
+        _ => (argb / 16777216) as u8,
+    }
+}
+
+// The pixel AARRGGBB of its four lanes.
+fn word(b: u8, g: u8, r: u8, a: u8) -> u32
+    ensures { λ n. ⌜ n ≡ b + 2 ^ 8 * g + 2 ^ 16 * r + 2 ^ 24 * a ⌝ }
+{
+    b as u32 + 256 * g as u32 + 65536 * r as u32 + 16777216 * a as u32
+}
+
+impl PixelLayout {
+    // Where the lanes B, G, R, A stand: for a caller that reads a whole row. Rules out: two lanes exchanged; the places of another layout.
+    pub fn places(self) -> Places
+        ensures { λ r. ⌜ r ≡ placesOf self ⌝ }
+    {
+        Places {
+            b: place(self, 0),
+            g: place(self, 1),
+            r: place(self, 2),
+            a: place(self, 3),
+        }
+    }
+
+    // The Rust's pack. Rules out: two lanes exchanged; the bytes of another layout.
+    pub fn pack(self, argb: u32) -> [u8; 4]
+        ensures { λ r. ⌜ r ≡ packed self argb ⌝ }
+    {
+        [
+            lane(argb, place(self, 0)),
+            lane(argb, place(self, 1)),
+            lane(argb, place(self, 2)),
+            lane(argb, place(self, 3)),
+        ]
+    }
+
+    // The Rust's unpack. Rules out: two lanes exchanged; the bytes of another layout.
+    pub fn unpack(self, px: [u8; 4]) -> u32
+        ensures { λ r. ⌜ r ≡ unpacked self px ⌝ }
+    {
+        let b = place(self, 0);
+        let g = place(self, 1);
+        let r = place(self, 2);
+        let a = place(self, 3);
+        word(px[b], px[g], px[r], px[a])
+    }
+
+    // The Rust's alpha_byte_offset, written out; it agrees with the table. Rules out: alpha last in every layout; the place of blue.
+    pub fn alpha_byte_offset(self) -> usize
+        ensures { λ r. ⌜ r ≡ placeOf self alphaLane ⌝ }
+    {
+        match self {
+            PixelLayout::Rgba8 => 3,
+            PixelLayout::Argb8 => 0,
+            PixelLayout::Bgra8 => 3,
+        }
+    }
+}
+
+// Stores a pixel's bytes from at on.
+fn put(out: &mut [u8], at: usize, px: [u8; 4])
+    requires { ⌜ (at + lanes ≤ length (now out)) × (length px ≡ lanes) ⌝ }
+    ensures { λ _. ⌜ now (out .exit) ≡ take at (now (out .entry)) ++ (px ++ drop (at + lanes) (now (out .entry))) ⌝ }
+{
+    out[at] = px[0];
+    out[at + 1] = px[1];
+    out[at + 2] = px[2];
+    out[at + 3] = px[3];
+}
+
+fn pack_into(layout: PixelLayout, argb: &[u32], out: &mut [u8])
+    requires { ⌜ length (now out) ≡ lanes * length (now argb) ⌝ }
+    ensures { λ _. ⌜ now (out .exit) ≡ packedPixels layout (now (argb .entry)) ⌝ }
+{
+    let mut i = 0;
+    while i < argb.len() {
+        put(out, 4 * i, layout.pack(argb[i]));
+        i += 1;
+    }
+}
+
+// The Rust's pack_pixels. Rules out: a longer buffer taken; a buffer written although it was refused; pixels in reverse.
+pub fn pack_pixels(layout: PixelLayout, argb: &[u32], out: &mut [u8]) -> Checked
+    ensures number { λ r. ⌜ checkedNumber r ≡ packNumber (length (now (argb .entry))) (length (now (out .entry))) ⌝ }
+    ensures out { λ _. ⌜ now (out .exit) ≡ bufferIf (packNumber (length (now (argb .entry))) (length (now (out .entry)))) (packedPixels layout (now (argb .entry))) (now (out .entry)) ⌝ }
+{
+    if out.len() % 4 != 0 {
+        return Checked::Refused(Refusal::OutputLength);
+    }
+    if out.len() / 4 != argb.len() {
+        return Checked::Refused(Refusal::OutputLength);
+    }
+    pack_into(layout, argb, out);
+    Checked::Fit
+}
+
+fn unpack_into(layout: PixelLayout, bytes: &[u8], out: &mut [u32])
+    requires { ⌜ length (now out) ≡ length (now bytes) / lanes ⌝ }
+    ensures { λ _. ⌜ now (out .exit) ≡ unpackedPixels layout (now (bytes .entry)) ⌝ }
+{
+    let mut i = 0;
+    while i < out.len() {
+        let at = 4 * i;
+        out[i] = layout.unpack([bytes[at], bytes[at + 1], bytes[at + 2], bytes[at + 3]]);
+        i += 1;
+    }
+}
+
+// The Rust's unpack_pixels. Rules out: trailing bytes told as a mistake; a buffer with one value more taken; lanes exchanged.
+pub fn unpack_pixels(layout: PixelLayout, bytes: &[u8], out: &mut [u32]) -> Checked
+    ensures number { λ r. ⌜ checkedNumber r ≡ unpackNumber (length (now (bytes .entry))) (length (now (out .entry))) ⌝ }
+    ensures out { λ _. ⌜ now (out .exit) ≡ bufferIf (unpackNumber (length (now (bytes .entry))) (length (now (out .entry)))) (unpackedPixels layout (now (bytes .entry))) (now (out .entry)) ⌝ }
+{
+    if out.len() != bytes.len() / 4 {
+        return Checked::Refused(Refusal::OutputLength);
+    }
+    unpack_into(layout, bytes, out);
+    Checked::Fit
+}
+
+// The Rust's argb_has_alpha. Rules out: a flag that looks at a colour; one that looks at the first pixel only.
+pub fn argb_has_alpha(argb: &[u32]) -> bool
+    ensures { λ r. ⌜ r ≡ argbHasAlpha (now (argb .entry)) ⌝ }
+{
+    let mut i = 0;
+    while i < argb.len() {
+        if argb[i] / 16777216 != 255 {
+            return true;
+        }
+        i += 1;
+    }
+    false
+}
