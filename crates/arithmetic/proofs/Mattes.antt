@@ -5,7 +5,7 @@ use mathlib.Core.Path.{_≡_, refl, sym, ap, ap₂, _∙_}
 use mathlib.Core.Bool.{Bool, true, false, cond}
 use mathlib.Core.Logic.{⊎-elim}
 use native.Mathlib.Omega.{arith}
-use native.Mathlib.Nat.{mul-le-mul, mul-le-mul-left, mul-le-mul-right, eq-or-lt-of-le, eq-zero-or-pos, div-le-self, div-zero, add-zero, le-of-suc-le-suc, le-trans}
+use native.Mathlib.Nat.{mul-le-mul-right, eq-or-lt-of-le, eq-zero-or-pos, div-le-self, div-zero, add-zero, le-of-suc-le-suc, le-trans}
 use borrow.Author.Tests.{eq-eqb, ne-eqb, lt-ltb}
 use lib.Dec.{ltb, lit<}
 use lib.Pow.{pow-pos}
@@ -59,10 +59,14 @@ pub pixel-cong : (p q : ℕ → ℕ) → ((k : ℕ) → k < 4 → p k ≡ q k) �
 unfolding pixelOf
 pixel-cong p q h = omega (arith, h 0 (omega arith), h 1 (omega arith), h 2 (omega arith), h 3 (omega arith))
 
--- ---- a colour scaled
-pub scale-mono : {c c' : ℕ} (k : ℕ) → c ≤ c' → scaleColour c k ≤ scaleColour c' k
+-- ---- a colour scaled: the definition, and that it is monotone in the colour
+pub scale-is : (c k : ℕ) → scaleColour c k ≡ (c * k + 2 ^ 23) / 2 ^ 24
 unfolding scaleColour
-scale-mono k h = omega (arith, mul-le-mul-right k h)
+scale-is c k = refl
+
+pub scaleColour-mono : {c c' : ℕ} (k : ℕ) → c ≤ c' → scaleColour c k ≤ scaleColour c' k
+unfolding scaleColour
+scaleColour-mono k h = omega (arith, mul-le-mul-right k h)
 
 -- one form for every alpha: c × a / 255 to the nearest, also as the two quotients by 256 that the code takes
 pub matte-rounded : (c a : ℕ) → c ≤ 255 → a ≤ 255 → scaleColour c (matteFactor a) ≡ (c * a + 127) / 255
@@ -200,12 +204,12 @@ unfolding multArgb scaledLane
 argb-between argb inverse l u =
     simp (ne-eqb (laneOf argb 3) 255 (λ e. omega arith), ne-eqb (laneOf argb 3) 0 (λ e. omega arith))
 
--- it never leaves 32 bits, spill included
 pub scaled-word : (argb : ℕ) (inverse : Bool) (k : ℕ) → k < 3 → scaledLane argb inverse k < 2 ^ 16
 scaled-word argb inverse k l =
     rw (scaled-colour argb inverse k l)
     (scale-word (laneOf argb k) (factorOf inverse (laneOf argb 3)) (lane-byte argb k) (factor-word inverse (laneOf argb 3) (lane-byte argb 3)))
 
+-- it never leaves 32 bits, spill included
 pub argb-word : (argb : ℕ) (inverse : Bool) → argb < 2 ^ 32 → multArgb argb inverse < 2 ^ 32
 argb-word argb inverse h =
     ⊎-elim

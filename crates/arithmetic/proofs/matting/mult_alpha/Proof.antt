@@ -1,9 +1,8 @@
 -- `mult_alpha` meets its contract: a byte times a word and a half fit 64 bits, and the quotient 16. Assumes nothing.
-use borrow.Author.Needs.{needs}
 use native.Mathlib.Omega.{arith}
 use native.Mathlib.Nat.{mul-le-mul-right}
-use Rattle.arithmetic.specs.Matte.{scaleColour}
 use Rattle.arithmetic.proofs.Products.{most}
+use Rattle.arithmetic.proofs.Mattes.{scale-is}
 use Rattle.arithmetic.proofs.matting.mult_alpha.Statement.{statement}
 use Rattle.arithmetic.proofs.matting.mult_alpha.Tie as tie
 
@@ -17,8 +16,7 @@ cast-result : tie.Need-cast-result
 cast-result c = omega (arith, mul-le-mul-right (c .args .scale) (c .pre))
 
 returns : tie.Need-returns
-unfolding scaleColour
-returns c = search needs
+returns c = omega (arith, scale-is (c .args .colour) (c .args .scale))
 
 pub mult-alpha-spec : {M : Type 1} → statement M
 mult-alpha-spec = tie.close (tie.spec mul-result add-result cast-result returns)
