@@ -6,3 +6,5 @@ pub mod Mean
 pub mod Done
 pub mod Scaling
 pub mod Export
+pub mod Restoring
+pub mod Pixelwise
