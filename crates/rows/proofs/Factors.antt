@@ -39,6 +39,12 @@ pub mixed-none : (x y : ℕ) → mixed 0 x y ≡ x
 unfolding mixed
 mixed-none x y = omega arith
 
+none-older : (factor : ℕ) (newer older : List ℕ) (x : ℕ) → growByte 0 factor newer newer x ≡ growByte 0 factor newer older x
+unfolding growByte
+none-older factor newer older x =
+    ap (λ (t : ℕ). clamp (MULT t factor))
+    (mixed-none (getD newer x 0) (getD newer x 0) ∙ sym (mixed-none (getD newer x 0) (getD older x 0)))
+
 -- ---- d = 0 is no case of its own: its factors are 0
 floor-none : (x : ℕ) → FLOOR x 0 ≡ 0
 unfolding FLOOR
@@ -84,27 +90,33 @@ module _ (sp h g w u y : ℕ) (work : List ℕ) (down : g ≤ h) {q step : ℕ} 
     ne : ratio sp h g ≡ 2 ^ 32 → ⊥
     ne e = word (q-is ∙ e)
 
-    pub shrink-out : tabulate (shrinkByte step q w work) w ≡ tabulate (byteOut sp h g w u y work) w
+    pub shrink-out : {out : List ℕ} → out ≡ tabulate (shrinkByte step q w work) w → out ≡ tabulate (byteOut sp h g w u y work) w
     unfolding shrinkByte byteOut byteDown
-    shrink-out =
-        tabulate-cong (shrinkByte step q w work) (byteOut sp h g w u y work) w
+    shrink-out e =
+        e
+        ∙ tabulate-cong (shrinkByte step q w work) (byteOut sp h g w u y work) w
         (λ x l. simp (le-leb g h down, ne-eqb (ratio sp h g) (2 ^ 32) ne, q-is, left-is x))
 
-    pub shrink-work : tabulate (shrinkLeft step w work) w ++ drop w work ≡ rowLeft sp h g w u y work
+    pub shrink-work : {work′ : List ℕ} → work′ ≡ tabulate (shrinkLeft step w work) w ++ drop w work → work′ ≡ rowLeft sp h g w u y work
     unfolding rowLeft leftDown
-    shrink-work = simp (le-leb g h down, ne-eqb (ratio sp h g) (2 ^ 32) ne)
-        (ap (λ (t : List ℕ). t ++ drop w work) (tabulate-cong (shrinkLeft step w work) (λ x. share g (restDown h g u y) (getD work (w + x) 0)) w (λ x l. left-is x)))
+    shrink-work e =
+        simp (le-leb g h down, ne-eqb (ratio sp h g) (2 ^ 32) ne)
+        (e
+        ∙ ap (λ (t : List ℕ). t ++ drop w work)
+        (tabulate-cong (shrinkLeft step w work) (λ x. share g (restDown h g u y) (getD work (w + x) 0)) w (λ x l. left-is x)))
 
-  module _ (one : q ≡ 2 ^ 32) where
-    pub take-out : tabulate (lowByte work) w ≡ tabulate (byteOut sp h g w u y work) w
-    unfolding lowByte byteOut byteDown
-    take-out =
-        tabulate-cong (lowByte work) (byteOut sp h g w u y work) w
-        (λ x l. simp (le-leb g h down, eq-eqb (ratio sp h g) (2 ^ 32) (sym q-is ∙ one)))
+-- where the ratio is 2^32
+module _ (sp h g w u y : ℕ) (work : List ℕ) (down : g ≤ h) (one : ratio sp h g ≡ 2 ^ 32) where
+  pub take-out : {out : List ℕ} → out ≡ tabulate (lowByte work) w → out ≡ tabulate (byteOut sp h g w u y work) w
+  unfolding lowByte byteOut byteDown
+  take-out e =
+      e
+      ∙ tabulate-cong (lowByte work) (byteOut sp h g w u y work) w
+      (λ x l. simp (le-leb g h down, eq-eqb (ratio sp h g) (2 ^ 32) one))
 
-    pub take-work : tabulate (λ x. 0) w ++ drop w work ≡ rowLeft sp h g w u y work
-    unfolding rowLeft leftDown
-    take-work = simp (le-leb g h down, eq-eqb (ratio sp h g) (2 ^ 32) (sym q-is ∙ one))
+  pub take-work : {work′ : List ℕ} → work′ ≡ tabulate (λ x. 0) w ++ drop w work → work′ ≡ rowLeft sp h g w u y work
+  unfolding rowLeft leftDown
+  take-work e = simp (le-leb g h down, eq-eqb (ratio sp h g) (2 ^ 32) one) e
 
 -- ---- g > h: the same
 pub half-most : (w c : ℕ) → halfOf w c ≤ w
@@ -138,11 +150,11 @@ module _ (sp h g w u y : ℕ) (work : List ℕ) (up : h < g) {b factor : ℕ} {n
       rw (new-at x l, old-at x l, b-is) (blend-is g (restUp h g u y) (getD work (halfOf w (u - 1) + x) 0) (getD work (halfOf w u + x) 0)) in
       simp (lt-leb g h up) (ap₂ (λ (j f : ℕ). clamp (MULT j f)) j-is factor-is)
 
-  pub grow-out : tabulate (growByte b factor newer older) w ≡ tabulate (byteOut sp h g w u y work) w
-  grow-out = tabulate-cong (growByte b factor newer older) (byteOut sp h g w u y work) w up-byte
+  pub grow-out : {out : List ℕ} → out ≡ tabulate (growByte b factor newer older) w → out ≡ tabulate (byteOut sp h g w u y work) w
+  grow-out e = e ∙ tabulate-cong (growByte b factor newer older) (byteOut sp h g w u y work) w up-byte
 
-  pub level-out : b ≡ 0 → tabulate (growByte 0 factor newer newer) w ≡ tabulate (byteOut sp h g w u y work) w
-  unfolding growByte
-  level-out e =
-      tabulate-cong (growByte 0 factor newer newer) (byteOut sp h g w u y work) w
-      (λ x l. ap (λ (t : ℕ). clamp (MULT t factor)) (mixed-none (getD newer x 0) (getD newer x 0) ∙ sym (mixed-none (getD newer x 0) (getD older x 0)) ∙ ap (λ (t : ℕ). mixed t (getD newer x 0) (getD older x 0)) (sym e)) ∙ up-byte x l)
+  pub level-out : {out : List ℕ} → b ≡ 0 → out ≡ tabulate (growByte 0 factor newer newer) w → out ≡ tabulate (byteOut sp h g w u y work) w
+  level-out z e =
+      e
+      ∙ tabulate-cong (growByte 0 factor newer newer) (byteOut sp h g w u y work) w
+      (λ x l. none-older factor newer older x ∙ ap (λ (t : ℕ). growByte t factor newer older x) (sym z) ∙ up-byte x l)
