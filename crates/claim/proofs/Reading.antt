@@ -11,7 +11,7 @@ use lib.Seq.{getD-take, getD-drop}
 use lib.Dec.{leb}
 use borrow.Author.Tests.{le-leb}
 use Rattle.arithmetic.specs.Matte.{laneOf, pixelOf, multArgb}
-use Rattle.arithmetic.proofs.Mattes.{lane-byte}
+use Rattle.arithmetic.proofs.Mattes.{lane-byte, pixel-cong}
 use Rattle.pixels.specs.declared.PixelLayout.{PixelLayout}
 use Rattle.pixels.specs.Sizes.{lanes, rowBytes, halfValues, Fits}
 use Rattle.pixels.specs.Layout.{placeOf, laneAt, pixelAt}
@@ -24,7 +24,6 @@ use Rattle.rowlaws.proofs.Monotone.{value-mono}
 use Rattle.rowlaws.proofs.Columns.{value-word}
 use Rattle.job.specs.declared.Plan.{Plan}
 use Rattle.job.specs.Calls.{valuesOf}
-use Rattle.job.proofs.Restoring.{word-cong}
 use Rattle.claim.specs.Rows.{sourceByte, mattedByte}
 
 -- the value of crop row c at place x of a half
@@ -63,7 +62,7 @@ module _ (p : Plan) (b : ℕ → ℕ) (row : List ℕ) (c : ℕ) (fits : Fits (p
   unfolding matted mattedByte pixelAt
   matted-is k i l =
       ap (λ (t : ℕ). laneOf (multArgb t false) k)
-      (word-cong (laneAt (p .layout) (windowOf row (p .crop .x) (p .crop .width)) i) (sourceByte p b c i) (λ k' u. window-lane i k' l u))
+      (pixel-cong (laneAt (p .layout) (windowOf row (p .crop .x) (p .crop .width)) i) (sourceByte p b c i) (λ k' u. window-lane i k' l u))
 
   pub values-are : (x : ℕ) → x < halfValues (p .target .width) → valuesOf p row x ≡ cropValue p b c x
   unfolding rowValue cropValue

@@ -7,6 +7,7 @@ use mathlib.Core.List.{List}
 use native.Mathlib.Omega.{arith}
 use lib.ListN.{length, getD}
 use Rattle.arithmetic.specs.Matte.{laneOf, multArgb, pixelOf}
+use Rattle.arithmetic.proofs.Mattes.{pixel-cong}
 use Rattle.arithmetic.specs.Weight.{span}
 use Rattle.arithmetic.specs.Table.{tabulate}
 use Rattle.arithmetic.proofs.Tables.{length-tabulate, getD-tabulate, tabulate-cong}
@@ -30,7 +31,7 @@ use Rattle.job.specs.declared.Job.{Job}
 use Rattle.job.specs.Record.{R, Rules}
 use Rattle.job.specs.Calls.{usedBy, rowTaken, workTaken}
 use Rattle.claim.specs.Rows.{sourceByte, mattedByte, scaledLane, rowOf}
-use Rattle.job.proofs.Restoring.{word-cong, restored-cong}
+use Rattle.job.proofs.Restoring.{restored-cong}
 use Rattle.claim.proofs.Reading.{cropValue, cropValue-word, matted-small}
 use Rattle.claim.proofs.Feeding.{Holds}
 
@@ -78,7 +79,7 @@ module _ (p : Plan) (b : ℕ → ℕ) (y i : ℕ) (inside : i < p .target .width
       rw (q, d)
 
   pub row-lane : (k : ℕ) → k < lanes → getD (rowOf p b y) (lanes * i + placeOf (p .layout) k) 0 ≡ laneOf pixel k
-  unfolding rowOf restoredPlace packedByte restoredPixel pixelOf
+  unfolding rowOf restoredPlace packedByte restoredPixel
   row-lane k l =
       let small = place-lt (p .layout) k l in
       let z : ℕ = lanes * i + placeOf (p .layout) k in
@@ -86,7 +87,7 @@ module _ (p : Plan) (b : ℕ → ℕ) (y i : ℕ) (inside : i < p .target .width
       let d : (lanes * i + placeOf (p .layout) k) / lanes ≡ i = omega arith in
       getD-tabulate _ (rowBytes (p .target .width)) z (omega arith)
       ∙ rw (q, d, place-twice (p .layout) k l)
-      (ap (λ (t : ℕ). laneOf (multArgb t true) k) (word-cong _ _ lane-of))
+      (ap (λ (t : ℕ). laneOf (multArgb t true) k) (pixel-cong _ _ lane-of))
 
   -- ---- near the exact mean
   module _ (fits : Fits (p .source) (p .crop) (p .target)) (row : y < p .target .height) (premise : Premise (span (p .crop .width) (p .target .width)) (p .crop .height) (p .target .height)) where

@@ -20,6 +20,7 @@ use Rattle.schedule.specs.Schedule.{needed}
 use Rattle.schedule.proofs.Needed.{needed-used, needed-some, down-low, down-high, up-low, up-high}
 use Rattle.rows.specs.WorkRows.{byteOut}
 use Rattle.rows.specs.Scaling.{within, due, scaleNumber, scaledOut, scaledWork}
+use Rattle.rows.specs.Restoring.{restoreNumber, restoredRow, restoredOut, rowFlag}
 use Rattle.rows.proofs.Dues.{due-down, due-up}
 use Rattle.rows.proofs.Scalings.{scale-passes}
 use Rattle.job.specs.declared.Plan.{Plan}
@@ -88,3 +89,27 @@ module _ (j : Job) (out work : List ℕ) (goes : takeNumber j (length out) (leng
         → row ≡ tabulate (lanesOf j work) (halfValues (j .plan .target .width))
     unfolding scaledOut
     lanes-are row e = e ∙ rw u-is (simp (eq-eqb _ 0 scale-goes))
+
+    -- ---- restored and packed in place, and the flag
+    module _ (row : List ℕ) (row-is : row ≡ scaledOut (cropSize (j .plan)) (j .plan .target) u (j .taken) out work) where
+      restore-goes : restoreNumber (j .plan .target .width) (length row) ≡ 0
+      unfolding restoreNumber
+      restore-goes =
+          let n : length row ≡ rowBytes (j .plan .target .width) = ap length (lanes-are row row-is) ∙ length-tabulate _ (halfValues (j .plan .target .width)) in
+          simp (side-good (j .plan .target .width) (w .rules .sizes .target-width), eq-eqb (length row) (rowBytes (j .plan .target .width)) n)
+
+      packed-is : restoredRow (j .plan .layout) (j .plan .target .width) row ≡ rowTaken j work
+      unfolding restoredRow rowTaken
+      packed-is =
+          tabulate-cong _ _ (rowBytes (j .plan .target .width))
+          (λ z l.
+          restored-cong (j .plan .layout) (λ x. getD row x 0) (lanesOf j work) (j .plan .target .width) z l
+          (λ x k. ap (λ (s : List ℕ). getD s x 0) (lanes-are row row-is) ∙ getD-tabulate (lanesOf j work) (halfValues (j .plan .target .width)) x k))
+
+      pub row-out : (last : List ℕ) → last ≡ restoredOut (j .plan .layout) (j .plan .target .width) row → last ≡ rowTaken j work
+      unfolding restoredOut
+      row-out last e = e ∙ simp (eq-eqb _ 0 restore-goes) packed-is
+
+      pub flag-out : (flag : Bool) → flag ≡ rowFlag (j .plan .layout) (j .plan .target .width) row → flag ≡ hasAlpha (j .plan .layout) (rowTaken j work) (j .plan .target .width)
+      unfolding rowFlag
+      flag-out flag e = e ∙ simp (eq-eqb _ 0 restore-goes) (ap (λ (s : List ℕ). hasAlpha (j .plan .layout) s (j .plan .target .width)) packed-is)

@@ -7,16 +7,17 @@ use pixels::Rect;
 use pixels::Refusal;
 use pixels::check_sizes;
 ghost use mathlib.Core.Path.{_≡_};
-ghost use mathlib.Core.Bool.{cond};
+ghost use mathlib.Core.Bool.{cond, _||_};
 ghost use mathlib.Core.List.{_++_};
 ghost use Prim.Native.Nat.{_-_, _≤_, min};
 ghost use lib.Dec.{leb};
 ghost use lib.ListN.{length, drop, replicate};
 ghost use Rattle.pixels.specs.Sizes.{rowBytes, halfValues, workValues, Fits};
 ghost use Rattle.rows.specs.WorkRows.{halfOf};
-ghost use Rattle.job.specs.Answers.{startedNumber, startedJob, offeredNumber, offeredRows, offeredJob};
+ghost use Rattle.rows.specs.Restoring.{restoredFlag};
+ghost use Rattle.job.specs.Answers.{startedNumber, startedJob, offeredNumber, offeredRows, offeredJob, takenNumber, takenJob};
 ghost use Rattle.job.specs.Record.{R, planOf, fresh, lawful, readyOf, Rules};
-ghost use Rattle.job.specs.Calls.{startNumber, startWork, lentRows, rowAccepted, fed, count, offerNumber, offerRows, offerJob, offerWork};
+ghost use Rattle.job.specs.Calls.{startNumber, startWork, lentRows, rowAccepted, fed, count, offerNumber, offerRows, offerJob, offerWork, takeNumber, takeJob, takeOut, takeWork};
 
 // What does not change in a job.
 pub struct Plan {
@@ -58,7 +59,7 @@ pub enum Taken {
 fn made(p: Plan, accepted: u32) -> u64
     ensures { λ r. ⌜ r ≡ R p accepted ⌝ }
 {
-    schedule::rows_by(p.crop.y, p.crop.height, p.target.height, accepted)
+    rows_by(p.crop.y, p.crop.height, p.target.height, accepted)
 }
 
 fn less_one(k: u32) -> u32
@@ -142,6 +143,21 @@ fn accept(j: Job, rows: &[u8], work: &mut [u32]) -> u32
         }
     };
     n
+}
+
+// ---- a row goes out
+
+// The flag so far, joined by that of the row just restored.
+fn flag_after(flag: bool, restored: Restored) -> bool
+    ensures { λ r. ⌜ r ≡ (flag || restoredFlag restored) ⌝ }
+{
+    if flag {
+        return true;
+    }
+    match restored {
+        Restored::Flag(f) => f,
+        Restored::Refused(_) => false,
+    }
 }
 
 // ---- the calls
@@ -286,5 +302,52 @@ impl Job {
         let n = accept(self, rows, work);
         self.accepted = k + n;
         Offered::Accepted { rows: n, job: self }
+    }
+
+    // Takes the next output row; its alpha flag joins the record's.
+    // Rules out: a row written twice or not at all; t advanced by a call that was turned away; the flag of an opaque row set.
+    pub fn take(mut self, out: &mut [u8], work: &mut [u32]) -> Taken
+        ensures number { λ r. ⌜ takenNumber r ≡ takeNumber self (length (now (out .entry))) (length (now (work .entry))) ⌝ }
+        ensures job { λ r. ⌜ takenJob r ≡ takeJob self (length (now (out .entry))) (now (work .entry)) ⌝ }
+        ensures out { λ _. ⌜ now (out .exit) ≡ takeOut self (now (out .entry)) (now (work .entry)) ⌝ }
+        ensures work { λ _. ⌜ now (work .exit) ≡ takeWork self (length (now (out .entry))) (now (work .entry)) ⌝ }
+    {
+        if !self.check() {
+            return Taken::Refused {
+                why: Refusal::InvalidRecord,
+                job: self,
+            };
+        }
+        let p = self.plan;
+        if out.len() != 4 * p.target.width as usize {
+            return Taken::Refused {
+                why: Refusal::OutputLength,
+                job: self,
+            };
+        }
+        if work.len() < 8 * p.target.width as usize {
+            return Taken::Refused {
+                why: Refusal::WorkLength,
+                job: self,
+            };
+        }
+        let t = self.taken;
+        if made(p, self.accepted) <= t as u64 {
+            return Taken::Refused {
+                why: Refusal::NoneReady,
+                job: self,
+            };
+        }
+        let u = used_rows(p.crop.y, p.crop.height, self.accepted);
+        let crop = Dimensions {
+            width: p.crop.width,
+            height: p.crop.height,
+        };
+        scale_row(crop, p.target, u, t, out, work);
+        let restored = restore_row(p.layout, p.target.width, out);
+        let flag = flag_after(self.flag, restored);
+        self.taken = t + 1;
+        self.flag = flag;
+        Taken::Wrote { job: self }
     }
 }
