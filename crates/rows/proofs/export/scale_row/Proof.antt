@@ -53,14 +53,14 @@ cast-w c = search needs
 mul-w : tie.Need-mul-w
 mul-w c = search needs
 
+mul-both : tie.Need-mul-both
+mul-both c = search needs
+
 returns-3 : tie.Need-returns-3
 returns-3 c =
     let a = c .before .before .before .before .before .before .before .before .args in
     scale-refused (a .crop) (a .target) (a .used) (a .row) (a .out .now) (a .work .now) OutputLength
     (scale-length (a .crop) (a .target) (a .used) (a .row) (length (a .out .now)) (length (a .work .now)) (crop-fits (c .before .before .before .before)) (target-fits (c .before .before)) (c .if3 .taken))
-
-mul-if4 : tie.Need-mul-if4
-mul-if4 c = search needs
 
 returns-4 : tie.Need-returns-4
 returns-4 c =
@@ -125,8 +125,8 @@ scale-row-spec =
     returns-2
     cast-w
     mul-w
+    mul-both
     returns-3
-    mul-if4
     returns-4
     due-requires
     returns-5
