@@ -1,7 +1,7 @@
 -- The record and its rules (document 01, "The job"). Assumes nothing.
 use Prim.Native.Nat.{ℕ, _-_, _≤_}
 use mathlib.Core.Path.{_≡_}
-use mathlib.Core.Bool.{Bool, false, not, _||_, _&&_}
+use mathlib.Core.Bool.{Bool, false, cond, not, _||_, _&&_}
 use lib.Dec.{eqb, leb}
 use Rattle.pixels.specs.declared.Dimensions.{Dimensions}
 use Rattle.pixels.specs.declared.Rect.{Rect}
@@ -39,3 +39,7 @@ pub record Rules (j : Job) : Type 0 where
   pub low : R (j .plan) (j .accepted - 1) ≤ j .taken
   pub high : j .taken ≤ R (j .plan) (j .accepted)
   pub flagless : j .taken ≡ 0 → j .flag ≡ false
+
+-- "Ready = R(k) - t": the rules have t at most R(k). A record that breaks them has none ready.
+unfoldable pub readyOf : Job → ℕ
+readyOf j = cond (lawful j) (R (j .plan) (j .accepted) - j .taken) 0

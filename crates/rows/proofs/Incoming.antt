@@ -14,7 +14,7 @@ use Rattle.pixels.specs.Refusals.{number}
 use Rattle.pixels.specs.Sizes.{lanes, rowBytes, halfValues, workValues, badSide}
 use Rattle.pixels.specs.Layout.{placeOf, placesOf, pixelAt}
 use Rattle.pixels.specs.Lanes.{matted}
-use Rattle.pixels.proofs.Packing.{pixel-lane}
+use Rattle.pixels.proofs.Packing.{pixelAt-lane}
 use Rattle.pixels.proofs.Tabled.{place-lt}
 use Rattle.rows.specs.Column.{value}
 use Rattle.rows.specs.Lanes.{rowValue}
@@ -70,7 +70,7 @@ places-within layout =
 module _ (layout : PixelLayout) (s : List ℕ) (bytes : Bytes s) where
   pub lane-is : (i k : ℕ) → k < lanes → laneOf (pixelAt layout s i) k ≡ byteAt s (placeOf layout k) i
   unfolding byteAt
-  lane-is i k h = pixel-lane layout s i k (λ x. omega (arith, bytes x)) h
+  lane-is i k h = pixelAt-lane layout s i k bytes h
 
   pub colour-is : (i k : ℕ) → k < 3 → matted layout s k i ≡ mattedAt s (placeOf layout 3) (placeOf layout k) i
   unfolding matted mattedAt
