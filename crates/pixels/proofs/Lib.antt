@@ -4,3 +4,7 @@ pub mod Tabled
 pub mod Stretches
 pub mod Packing
 pub mod Flags
+pub mod Windows
+pub mod Planes
+pub mod Pictures
+pub mod Matted

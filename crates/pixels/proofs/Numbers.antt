@@ -1,11 +1,11 @@
 -- Laws of the numbers of "Why a call is turned away": a number names its cause, none is 0, and the first of two is the first that applies. Assumes nothing.
 use Prim.Native.Nat.{ℕ, _<_}
 use mathlib.Core.Path.{_≡_, refl, sym, ap, _∙_}
-use mathlib.Core.Bool.{Bool, true, false}
+use mathlib.Core.Bool.{Bool, true, false, not}
 use mathlib.Core.List.{List, [], _∷_}
 use native.Mathlib.Omega.{arith}
 use lib.Dec.{eqb, lit<}
-use borrow.Author.Tests.{ne-eqb}
+use borrow.Author.Tests.{eq-eqb, ne-eqb}
 use lib.ListN.{getD}
 use Rattle.pixels.specs.declared.Dimensions.{Dimensions}
 use Rattle.pixels.specs.declared.Refusal.{Refusal}
@@ -77,8 +77,8 @@ sized-accepted n d e = (sym e, simp e)
 pub flagged-refused : (why : Refusal) (n : ℕ) (b : Bool) → n ≡ number why → (number why ≡ n) × (false ≡ flagIf n b)
 flagged-refused why n b e = (sym e, simp (not-zero why n e))
 
-pub flagged-accepted : (n : ℕ) (b : Bool) → n ≡ 0 → (0 ≡ n) × (b ≡ flagIf n b)
-flagged-accepted n b e = (sym e, simp e)
+pub flagged-accepted : (n : ℕ) {flag : Bool} (b : Bool) → n ≡ 0 → flag ≡ b → (0 ≡ n) × (flag ≡ flagIf n b)
+flagged-accepted n b e f = (sym e, simp e f)
 
 pub buffer-refused : (why : Refusal) (n : ℕ) (w k : List ℕ) → n ≡ number why → (number why ≡ n) × (k ≡ bufferIf n w k)
 buffer-refused why n w k e = (sym e, simp (not-zero why n e))
@@ -86,9 +86,23 @@ buffer-refused why n w k e = (sym e, simp (not-zero why n e))
 pub buffer-written : (n : ℕ) {out : List ℕ} (w k : List ℕ) → n ≡ 0 → out ≡ w → (0 ≡ n) × (out ≡ bufferIf n w k)
 buffer-written n w k e f = (sym e, simp e f)
 
--- a cause that applies, and one that does not
-pub refused-number : (why : Refusal) (b : Bool) → b ≡ true → refusedIf b why ≡ number why
-refused-number why b e = simp e
+-- number, flag and buffer
+pub all-refused : (why : Refusal) (n : ℕ) (b : Bool) (w k : List ℕ) → n ≡ number why → (number why ≡ n) × ((false ≡ flagIf n b) × (k ≡ bufferIf n w k))
+all-refused why n b w k e = (sym e, (simp (not-zero why n e), simp (not-zero why n e)))
 
-pub refused-none : (why : Refusal) (b : Bool) → b ≡ false → refusedIf b why ≡ 0
-refused-none why b e = simp e
+pub all-written : (n : ℕ) {flag : Bool} {out : List ℕ} (b : Bool) (w k : List ℕ) → n ≡ 0 → flag ≡ b → out ≡ w → (0 ≡ n) × ((flag ≡ flagIf n b) × (out ≡ bufferIf n w k))
+all-written n b w k e f g = (sym e, (simp e f, simp e g))
+
+-- ---- causes in their order
+pub first-why : (why : Refusal) (a b : ℕ) → a ≡ number why → firstOf a b ≡ number why
+first-why why a b e = rw e (first-number why b)
+
+pub first-next : (a b : ℕ) → a ≡ 0 → firstOf a b ≡ b
+first-next a b e = simp e
+
+-- a length that is not the one asked for
+pub length-refused : (why : Refusal) (n m : ℕ) → (n ≡ m → ⊥) → refusedIf (not (eqb n m)) why ≡ number why
+length-refused why n m h = simp (ne-eqb n m h)
+
+pub length-passes : (why : Refusal) (n m : ℕ) → n ≡ m → refusedIf (not (eqb n m)) why ≡ 0
+length-passes why n m h = simp (eq-eqb n m h)

@@ -5,9 +5,9 @@ use mathlib.Core.Path.{_≡_, refl, sym, ap, ap₂, _∙_}
 use mathlib.Core.List.{List, [], _∷_, _++_}
 use native.Mathlib.Omega.{arith}
 use native.Mathlib.Nat.{add-zero}
-use borrow.Author.Tests.{eq-eqb, ne-eqb}
 use lib.ListN.{length, getD, take, drop}
-use Rattle.arithmetic.specs.Matte.{laneOf}
+use Rattle.arithmetic.specs.Matte.{laneOf, pixelOf}
+use Rattle.arithmetic.proofs.Mattes.{lanes-make, pixel-lane, pixel-cong}
 use Rattle.arithmetic.specs.Table.{tabulate}
 use Rattle.arithmetic.proofs.Tables.{length-tabulate, getD-tabulate, tabulate-cong, tabulate-is, take-table, drop-table}
 use Rattle.pixels.specs.declared.PixelLayout.{PixelLayout}
@@ -15,52 +15,21 @@ use Rattle.pixels.specs.declared.PixelLayout.the-variants.{Rgba8, Argb8,
 use Rattle.pixels.specs.declared.Refusal.the-variants.{OutputLength}
 use Rattle.pixels.specs.Refusals.{number}
 use Rattle.pixels.specs.Sizes.{lanes}
-use Rattle.pixels.specs.Layout.{placeOf, wordOf, laneAt, pixelAt, unpacked, packed, unpackedPixels, packedByte, packedPixels, packNumber, unpackNumber}
+use Rattle.pixels.specs.Layout.{placeOf, laneAt, pixelAt, unpacked, packed, unpackedPixels, packedByte, packedPixels, packNumber, unpackNumber}
+use Rattle.pixels.proofs.Numbers.{length-refused, length-passes}
 use Rattle.pixels.proofs.Stretches.{stretch, tabulate-add}
 use Rattle.pixels.proofs.Tabled.{each-lane, place-lt, place-twice}
 
--- ---- a word and its lanes
-pub word-lanes : (n : ℕ) → n < 2 ^ 32 → wordOf (laneOf n) ≡ n
-unfolding laneOf
-word-lanes n h =
-    let low : n / 2 ^ (8 * 0) % 256 ≡ n % 256 = omega arith in
-    let high : n / 2 ^ (8 * 3) % 256 ≡ n / 2 ^ 24 = omega arith in
-    omega (arith, split n h)
-  where
-    split : (n : ℕ) → n < 2 ^ 32 → n % 256 + 2 ^ 8 * (n / 2 ^ 8 % 256) + 2 ^ 16 * (n / 2 ^ 16 % 256) + 2 ^ 24 * (n / 2 ^ 24) ≡ n
-    split n h = omega arith
-
-pub lane-word : (v : ℕ → ℕ) → ((k : ℕ) → k < lanes → v k < 256) → (k : ℕ) → k < lanes → laneOf (wordOf v) k ≡ v k
-unfolding laneOf
-lane-word v h =
-    let h0 = h 0 (omega arith) in
-    let h1 = h 1 (omega arith) in
-    let h2 = h 2 (omega arith) in
-    let h3 = h 3 (omega arith) in
-    each-lane (λ k. wordOf v / 2 ^ (8 * k) % 256 ≡ v k) (omega arith) (omega arith) (omega arith) (omega arith)
-
-pub lane-small : (n k : ℕ) → laneOf n k < 256
-unfolding laneOf
-lane-small n k = omega arith
-
--- alpha is what stands above 24 bits
-pub lane-alpha : (n : ℕ) → n < 2 ^ 32 → laneOf n 3 ≡ n / 2 ^ 24
-unfolding laneOf
-lane-alpha n h = omega arith
-
-word-cong : (v w : ℕ → ℕ) → ((k : ℕ) → k < lanes → v k ≡ w k) → wordOf v ≡ wordOf w
-word-cong v w h = omega (arith, h 0 (omega arith), h 1 (omega arith), h 2 (omega arith), h 3 (omega arith))
-
 -- what four bytes unpack to, the lanes read where the table says
 pub unpack-from : (l : PixelLayout) (s : List ℕ) (b g r a : ℕ) {n : ℕ} → b ≡ placeOf l 0 → g ≡ placeOf l 1 → r ≡ placeOf l 2 → a ≡ placeOf l 3 → n ≡ getD s b 0 + 2 ^ 8 * getD s g 0 + 2 ^ 16 * getD s r 0 + 2 ^ 24 * getD s a 0 → n ≡ unpacked l s
-unfolding unpacked pixelAt
+unfolding unpacked pixelAt pixelOf
 unpack-from Rgba8 s b g r a pb pg pr pa e = rw (pb, pg, pr, pa) at e
 unpack-from Argb8 s b g r a pb pg pr pa e = rw (pb, pg, pr, pa) at e
 unpack-from Bgra8 s b g r a pb pg pr pa e = rw (pb, pg, pr, pa) at e
 
 -- four bytes of a row, in their order, are a pixel of it
 pub unpacked-at : (l : PixelLayout) (s : List ℕ) (i : ℕ) → unpacked l (getD s (4 * i) 0 ∷ getD s (4 * i + 1) 0 ∷ getD s (4 * i + 2) 0 ∷ getD s (4 * i + 3) 0 ∷ []) ≡ pixelAt l s i
-unfolding unpacked pixelAt
+unfolding unpacked pixelAt pixelOf
 unpacked-at Rgba8 s i = simp add-zero
 unpacked-at Argb8 s i = simp add-zero
 unpacked-at Bgra8 s i = simp add-zero
@@ -95,19 +64,19 @@ packed-length l n = length-tabulate _ lanes
 -- ---- the output's length
 pub pack-refused : (n m : ℕ) → (m ≡ lanes * n → ⊥) → packNumber n m ≡ number OutputLength
 unfolding packNumber
-pack-refused n m h = simp (ne-eqb m (lanes * n) h)
+pack-refused n m h = length-refused OutputLength m (lanes * n) h
 
 pub pack-passes : (n m : ℕ) → m ≡ lanes * n → packNumber n m ≡ 0
 unfolding packNumber
-pack-passes n m h = simp (eq-eqb m (lanes * n) h)
+pack-passes n m h = length-passes OutputLength m (lanes * n) h
 
 pub unpack-refused : (n m : ℕ) → (m ≡ n / lanes → ⊥) → unpackNumber n m ≡ number OutputLength
 unfolding unpackNumber
-unpack-refused n m h = simp (ne-eqb m (n / lanes) h)
+unpack-refused n m h = length-refused OutputLength m (n / lanes) h
 
 pub unpack-passes : (n m : ℕ) → m ≡ n / lanes → unpackNumber n m ≡ 0
 unfolding unpackNumber
-unpack-passes n m h = simp (eq-eqb m (n / lanes) h)
+unpack-passes n m h = length-passes OutputLength m (n / lanes) h
 
 -- ---- round trips. A lane of packed pixels is the pixel's lane.
 pub packed-lane : (l : PixelLayout) (argb : List ℕ) (i k : ℕ) → i < length argb → k < lanes → laneAt l (packedPixels l argb) i k ≡ laneOf (getD argb i 0) k
@@ -120,7 +89,7 @@ packed-lane l argb i k h j =
 
 packed-pixel : (l : PixelLayout) (argb : List ℕ) (i : ℕ) → i < length argb → getD argb i 0 < 2 ^ 32 → pixelAt l (packedPixels l argb) i ≡ getD argb i 0
 unfolding pixelAt
-packed-pixel l argb i h w = word-cong _ _ (λ k j. packed-lane l argb i k h j) ∙ word-lanes (getD argb i 0) w
+packed-pixel l argb i h w = pixel-cong _ _ (λ k j. packed-lane l argb i k h j) ∙ lanes-make (getD argb i 0) w
 
 pub packed-count : (l : PixelLayout) (argb : List ℕ) → length (packedPixels l argb) ≡ lanes * length argb
 unfolding packedPixels
@@ -139,23 +108,23 @@ unpack-pack-pixels l argb w =
     ∙ sym (tabulate-is (pixelAt l (packedPixels l argb)) argb (λ i h. sym (packed-pixel l argb i h (w i))))
 
 -- a lane of a pixel is the byte at its place
-pub pixel-lane : (l : PixelLayout) (s : List ℕ) (i k : ℕ) → ((x : ℕ) → getD s x 0 < 256) → k < lanes → laneOf (pixelAt l s i) k ≡ laneAt l s i k
+pub pixelAt-lane : (l : PixelLayout) (s : List ℕ) (i k : ℕ) → ((x : ℕ) → getD s x 0 ≤ 255) → k < lanes → laneOf (pixelAt l s i) k ≡ laneAt l s i k
 unfolding pixelAt
-pixel-lane l s i k w h = lane-word (laneAt l s i) (λ j _. w (lanes * i + placeOf l j)) k h
+pixelAt-lane l s i k w h = pixel-lane (laneAt l s i) (λ j _. w (lanes * i + placeOf l j)) k h
 
-unpacked-byte : (l : PixelLayout) (s : List ℕ) (x : ℕ) → length s % lanes ≡ 0 → ((y : ℕ) → getD s y 0 < 256) → x < length s → packedByte l (λ i. getD (unpackedPixels l s) i 0) x ≡ getD s x 0
+unpacked-byte : (l : PixelLayout) (s : List ℕ) (x : ℕ) → length s % lanes ≡ 0 → ((y : ℕ) → getD s y 0 ≤ 255) → x < length s → packedByte l (λ i. getD (unpackedPixels l s) i 0) x ≡ getD s x 0
 unfolding packedByte unpackedPixels
 unpacked-byte l s x whole w h =
     let r : x % lanes < lanes = omega arith in
     let p = place-lt l (x % lanes) r in
     let e : lanes * (x / lanes) + x % lanes ≡ x = omega arith in
     ap (λ (t : ℕ). laneOf t (placeOf l (x % lanes))) (getD-tabulate (pixelAt l s) (length s / lanes) (x / lanes) (omega arith))
-    ∙ pixel-lane l s (x / lanes) (placeOf l (x % lanes)) w p
+    ∙ pixelAt-lane l s (x / lanes) (placeOf l (x % lanes)) w p
     ∙ ap (λ (t : ℕ). getD s (lanes * (x / lanes) + t) 0) (place-twice l (x % lanes) r)
     ∙ ap (λ (t : ℕ). getD s t 0) e
 
 -- packing undoes unpacking, of whole pixels
-pub pack-unpack-pixels : (l : PixelLayout) (s : List ℕ) → length s % lanes ≡ 0 → ((x : ℕ) → getD s x 0 < 256) → packedPixels l (unpackedPixels l s) ≡ s
+pub pack-unpack-pixels : (l : PixelLayout) (s : List ℕ) → length s % lanes ≡ 0 → ((x : ℕ) → getD s x 0 ≤ 255) → packedPixels l (unpackedPixels l s) ≡ s
 unfolding packedPixels
 pack-unpack-pixels l s whole w =
     let f : ℕ → ℕ = packedByte l (λ i. getD (unpackedPixels l s) i 0) in
@@ -169,14 +138,14 @@ at-first k = omega arith
 pub unpack-pack : (l : PixelLayout) (n : ℕ) → n < 2 ^ 32 → unpacked l (packed l n) ≡ n
 unfolding unpacked pixelAt packed
 unpack-pack l n w =
-    word-cong (laneAt l (tabulate (λ j. laneOf n (placeOf l j)) lanes) 0) (laneOf n)
+    pixel-cong (laneAt l (tabulate (λ j. laneOf n (placeOf l j)) lanes) 0) (laneOf n)
     (λ k h.
     ap (λ (t : ℕ). getD (tabulate (λ j. laneOf n (placeOf l j)) lanes) t 0) (at-first (placeOf l k))
     ∙ getD-tabulate (λ j. laneOf n (placeOf l j)) lanes (placeOf l k) (place-lt l k h)
     ∙ ap (laneOf n) (place-twice l k h))
-    ∙ word-lanes n w
+    ∙ lanes-make n w
 
-pub pack-unpack : (l : PixelLayout) (px : List ℕ) → length px ≡ lanes → ((x : ℕ) → getD px x 0 < 256) → packed l (unpacked l px) ≡ px
+pub pack-unpack : (l : PixelLayout) (px : List ℕ) → length px ≡ lanes → ((x : ℕ) → getD px x 0 ≤ 255) → packed l (unpacked l px) ≡ px
 unfolding unpacked packed
 pack-unpack l px long w =
     sym
@@ -185,5 +154,5 @@ pack-unpack l px long w =
   where
     at : (x : ℕ) → x < lanes → laneOf (pixelAt l px 0) (placeOf l x) ≡ getD px x 0
     at x h =
-        pixel-lane l px 0 (placeOf l x) w (place-lt l x h)
+        pixelAt-lane l px 0 (placeOf l x) w (place-lt l x h)
         ∙ ap (λ (t : ℕ). getD px t 0) (at-first (placeOf l (placeOf l x)) ∙ place-twice l x h)

@@ -1,11 +1,11 @@
 -- The layouts (document 01, "Lanes"): where each lane of a pixel AARRGGBB stands among its bytes. Lanes count from the lowest byte of the number:
 -- 0 is blue, 1 green, 2 red, 3 alpha. Assumes nothing.
-use Prim.Native.Nat.{ℕ, _+_, _*_, _/_, _%_, _^_}
+use Prim.Native.Nat.{ℕ, _+_, _*_, _/_, _%_}
 use mathlib.Core.Bool.{not}
 use mathlib.Core.List.{List, [], _∷_}
 use lib.Dec.{eqb}
 use lib.ListN.{length, getD}
-use Rattle.arithmetic.specs.Matte.{laneOf}
+use Rattle.arithmetic.specs.Matte.{laneOf, pixelOf}
 use Rattle.arithmetic.specs.Table.{tabulate}
 use Rattle.pixels.specs.declared.PixelLayout.{PixelLayout}
 use Rattle.pixels.specs.declared.PixelLayout.the-variants.{Rgba8, Argb8, Bgra8}
@@ -34,10 +34,6 @@ abbrev pub placesOf : PixelLayout → Places
 placesOf layout =
     record { b = placeOf layout 0; g = placeOf layout 1; r = placeOf layout 2; a = placeOf layout alphaLane }
 
--- the pixel AARRGGBB of lanes v 0 (blue) to v 3 (alpha)
-abbrev pub wordOf : (ℕ → ℕ) → ℕ
-wordOf v = v 0 + 2 ^ 8 * v 1 + 2 ^ 16 * v 2 + 2 ^ 24 * v 3
-
 -- lane k of pixel i of the bytes s
 abbrev pub laneAt : PixelLayout → List ℕ → ℕ → ℕ → ℕ
 laneAt layout s i k = getD s (lanes * i + placeOf layout k) 0
@@ -48,7 +44,7 @@ alphaAt layout s i = laneAt layout s i alphaLane
 
 -- pixel i of the bytes s, as the number AARRGGBB
 unfoldable pub pixelAt : PixelLayout → List ℕ → ℕ → ℕ
-pixelAt layout s i = wordOf (laneAt layout s i)
+pixelAt layout s i = pixelOf (laneAt layout s i)
 
 -- what four bytes unpack to, and what a pixel packs to
 unfoldable pub unpacked : PixelLayout → List ℕ → ℕ

@@ -56,12 +56,12 @@ cropNumber source crop n m =
     (firstOf (refusedIf (not (eqb n (pictureBytes (source .width) (source .height)))) PixelBufferMismatch)
     (refusedIf (not (eqb m (pictureBytes (crop .width) (crop .height)))) OutputLength))
 
--- ---- "`apply_alpha_plane` writes only alpha bytes": byte x is the plane's byte of its pixel at the alpha place, and itself elsewhere
+-- ---- "`apply_alpha_plane` writes only alpha bytes": byte x is the plane's byte of its pixel at the alpha place a, and itself elsewhere
+unfoldable pub alphaByte : ℕ → List ℕ → List ℕ → ℕ → ℕ
+alphaByte a pixels plane x = cond (eqb (x % lanes) a) (getD plane (x / lanes) 0) (getD pixels x 0)
+
 unfoldable pub withAlpha : PixelLayout → List ℕ → List ℕ → List ℕ
-withAlpha layout pixels plane =
-    tabulate
-    (λ x. cond (eqb (x % lanes) (placeOf layout alphaLane)) (getD plane (x / lanes) 0) (getD pixels x 0))
-    (length pixels)
+withAlpha layout pixels plane = tabulate (alphaByte (placeOf layout alphaLane) pixels plane) (length pixels)
 
 -- 1, then 3 for pixels or plane of another length
 unfoldable pub alphaNumber : Dimensions → ℕ → ℕ → ℕ

@@ -3,9 +3,15 @@
 pub use layout::argb_has_alpha;
 pub use layout::pack_pixels;
 pub use layout::unpack_pixels;
+pub use picture::apply_alpha_plane;
+pub use picture::crop;
+pub use picture::has_alpha;
+pub use picture::picture_has_alpha;
+pub use picture::window;
 pub use sizes::check_sizes;
 
 mod layout;
+mod picture;
 mod sizes;
 
 // Largest side of a picture, in pixels (the Rust's name): a bitstream stores a side less one in 14 bits.

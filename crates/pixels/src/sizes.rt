@@ -19,7 +19,7 @@ fn bad_side(side: u64) -> bool
     side > MAX_DIMENSION as u64
 }
 
-fn bad_size(size: Dimensions) -> bool
+pub(crate) fn bad_size(size: Dimensions) -> bool
     ensures { λ r. ⌜ r ≡ badSize size ⌝ }
 {
     if bad_side(size.width as u64) {

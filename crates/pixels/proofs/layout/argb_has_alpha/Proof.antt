@@ -1,6 +1,6 @@
 -- The invariant: no pixel passed has an alpha other than 255. Assumes nothing.
 use Rattle.pixels.proofs.Flags.{clear-at, clear-none, clear-next}
-use Rattle.pixels.proofs.Packing.{lane-alpha}
+use Rattle.arithmetic.proofs.Mattes.{lane-high}
 use Rattle.pixels.specs.Picture.{argbHasAlpha}
 use native.Mathlib.Omega.{arith}
 use Prim.Native.Nat.{_≤_, _<_, _-_, _^_}
@@ -36,7 +36,7 @@ unfolding argbHasAlpha
 returns c = let argb = (c .before .before .before .before .args) .argb .now in
     let i = (c .before .before .before .loop) .i in
     let w : getD argb i 0 < 2 ^ 32 = omega (arith, (c .before .shared-slice-known) .given i) in
-    sym (clear-at (λ j. laneOf (getD argb j 0) alphaLane) (length argb) i (omega arith) (λ e. (c .if1) .taken (sym (lane-alpha (getD argb i 0) w) ∙ e)))
+    sym (clear-at (λ j. laneOf (getD argb j 0) alphaLane) (length argb) i (omega arith) (λ e. (c .if1) .taken (sym (lane-high (getD argb i 0) w) ∙ e)))
 
 add-i : tie.Need-add-i Inv-loop μ-loop
 add-i c = search needs
@@ -48,7 +48,7 @@ loop-again : tie.Need-loop-again Inv-loop μ-loop
 loop-again c = let argb = (c .before .before .before .before .args) .argb .now in
     let i = (c .before .before .before .loop) .i in
     let w : getD argb i 0 < 2 ^ 32 = omega (arith, (c .before .shared-slice-known) .given i) in
-    (omega arith, clear-next _ i ((c .before .before .before .loop) .inv .1) (lane-alpha (getD argb i 0) w ∙ (c .if1) .left))
+    (omega arith, clear-next _ i ((c .before .before .before .loop) .inv .1) (lane-high (getD argb i 0) w ∙ (c .if1) .left))
 
 returns-2 : tie.Need-returns-2 Inv-loop μ-loop
 unfolding argbHasAlpha
