@@ -10,21 +10,20 @@ use pixels::Refusal;
 use pixels::Sized;
 use std::num::wrapping_sub_u32;
 ghost use mathlib.Core.Path.{_≡_};
-ghost use Prim.Native.Nat.{ℕ, _+_, _-_, _*_, _%_, _^_, _≤_, _<_, min};
 ghost use mathlib.Core.List.{_++_};
-ghost use lib.ListN.{length, getD, drop};
+ghost use Prim.Native.Nat.{_+_, _^_, _≤_, _<_};
+ghost use lib.Dec.{T};
+ghost use lib.ListN.{length, drop};
 ghost use lib.Signed.{nonNeg};
 ghost use lib.IntN.{pos, natAbs};
 ghost use Rattle.arithmetic.specs.Table.{tabulate};
-ghost use Rattle.rows.specs.Output.{clamp};
-ghost use lib.Dec.{T};
 ghost use Rattle.arithmetic.specs.Weight as weight;
 ghost use Rattle.pixels.specs.Sizes.{badSize};
-ghost use Rattle.rows.specs.Output.{restDown, restUp};
+ghost use Rattle.rows.specs.Output.{clamp};
 ghost use Rattle.rows.specs.WorkRows.{halfOf, byteOut, rowLeft};
 ghost use Rattle.rows.specs.Done.{doneNumber};
-ghost use Rattle.rows.specs.Scaling.{within, scaleNumber, scaledOut, scaledWork};
 ghost use Rattle.rows.specs.Scaling as scaling;
+ghost use Rattle.rows.specs.Scaling.{within, scaleNumber, scaledOut, scaledWork};
 ghost use Rattle.rows.specs.Export.{ShrinkAsks, GrowAsks, DownAsks, UpAsks, shrinkLeft, shrinkByte, lowByte, mixed, growByte};
 
 fn at_most(s: i32) -> i32
