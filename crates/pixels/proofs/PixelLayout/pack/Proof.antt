@@ -1,7 +1,7 @@
 -- Each byte is the lane that the table has at its place. Assumes nothing.
+use Rattle.pixels.proofs.Packing.{pack-from}
+-- Each byte is the lane that the table has at its place. Assumes nothing.
 use Rattle.pixels.proofs.Tabled.{place-lt}
-use Rattle.pixels.specs.Layout.{packed}
-use Rattle.arithmetic.specs.Table.{tabulate}
 use native.Mathlib.Omega.{arith}
 use borrow.Author.Needs.{needs}
 use Rattle.pixels.proofs.PixelLayout.pack.Statement.{statement}
@@ -32,8 +32,7 @@ lane-requires-4 : tie.Need-lane-requires-4
 lane-requires-4 c κs = omega (arith, (c .place4) .ensures, place-lt ((c .before .before .before .before .before .before .before .args) .self) 3 (omega arith))
 
 returns : tie.Need-returns
-unfolding packed tabulate
-returns c = cc
+returns c = pack-from _ _ ((c .before .before .before .before .before .before .before .place) .ensures) ((c .before .before .before .before .before .place2) .ensures) ((c .before .before .before .place3) .ensures) ((c .before .place4) .ensures) ((c .before .before .before .before .before .before .lane) .ensures) ((c .before .before .before .before .lane2) .ensures) ((c .before .before .lane3) .ensures) ((c .lane4) .ensures)
 
 pub pack-spec : {M : Type 1} → statement M
 pack-spec =
