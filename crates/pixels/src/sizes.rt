@@ -78,7 +78,7 @@ impl Dimensions {
         Sized::Size(size)
     }
 
-    // The Rust's pixel_count. Rules out: a product that wraps at 32 bits; the square of a side.
+    // The Rust's pixel_count. Rules out: a product that wraps at 32 bits; half the pixels.
     pub fn pixel_count(self) -> u64
         ensures { λ r. ⌜ r ≡ self .width * self .height ⌝ }
     {
