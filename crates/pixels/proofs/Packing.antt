@@ -27,6 +27,11 @@ unpack-from Rgba8 s b g r a pb pg pr pa e = rw (pb, pg, pr, pa) at e
 unpack-from Argb8 s b g r a pb pg pr pa e = rw (pb, pg, pr, pa) at e
 unpack-from Bgra8 s b g r a pb pg pr pa e = rw (pb, pg, pr, pa) at e
 
+-- what a pixel packs to, each byte the lane that the table has at its place
+pub pack-from : (l : PixelLayout) (n : ℕ) {p q r s b c d e : ℕ} → p ≡ placeOf l 0 → q ≡ placeOf l 1 → r ≡ placeOf l 2 → s ≡ placeOf l 3 → b ≡ laneOf n p → c ≡ laneOf n q → d ≡ laneOf n r → e ≡ laneOf n s → (b ∷ c ∷ d ∷ e ∷ []) ≡ packed l n
+unfolding packed tabulate
+pack-from l n p q r s b c d e = cc
+
 -- four bytes of a row, in their order, are a pixel of it
 pub unpacked-at : (l : PixelLayout) (s : List ℕ) (i : ℕ) → unpacked l (getD s (4 * i) 0 ∷ getD s (4 * i + 1) 0 ∷ getD s (4 * i + 2) 0 ∷ getD s (4 * i + 3) 0 ∷ []) ≡ pixelAt l s i
 unfolding unpacked pixelAt pixelOf

@@ -25,11 +25,11 @@ alpha-byte-offset-requires c κs = search needs
 loop-holds : tie.Need-loop-holds Inv-loop μ-loop
 loop-holds c = (omega arith, refl, partly-first _ _ _)
 
-mul-at : tie.Need-mul-at Inv-loop μ-loop
-mul-at c = search needs
+mul-to : tie.Need-mul-to Inv-loop μ-loop
+mul-to c = search needs
 
-add-at : tie.Need-add-at Inv-loop μ-loop
-add-at c = omega (arith, (c .before .before .alpha-byte-offset) .ensures, place-lt ((c .before .before .before .before .before .args) .layout) alphaLane (omega arith))
+add-to : tie.Need-add-to Inv-loop μ-loop
+add-to c = omega (arith, (c .before .before .alpha-byte-offset) .ensures, place-lt ((c .before .before .before .before .before .args) .layout) alphaLane (omega arith))
 
 shared-slice-read-pixels : tie.Need-shared-slice-read-pixels Inv-loop μ-loop
 shared-slice-read-pixels c = search needs
@@ -70,8 +70,8 @@ put-alpha-spec =
     μ-loop
     alpha-byte-offset-requires
     loop-holds
-    mul-at
-    add-at
+    mul-to
+    add-to
     shared-slice-read-pixels
     slice-write-pixels
     add-i
