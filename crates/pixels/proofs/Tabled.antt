@@ -1,6 +1,6 @@
 -- The table of lane orders: its places lie within a pixel, and each row is its own inverse, so pack and unpack can both read it. Assumes nothing.
-use Prim.Native.Nat.{ℕ, zero, suc, _+_, _*_, _/_, _%_, _^_, _<_}
-use mathlib.Core.Path.{_≡_, refl, ap}
+use Prim.Native.Nat.{ℕ, zero, suc, _<_}
+use mathlib.Core.Path.{_≡_, refl}
 use native.Mathlib.Omega.{arith}
 use lib.Dec.{lit<}
 use Rattle.pixels.specs.declared.PixelLayout.{PixelLayout}

@@ -18,7 +18,7 @@ place-requires-4 : tie.Need-place-requires-4
 place-requires-4 c κs = search needs
 
 returns : tie.Need-returns
-returns c = places-from ((c .before .before .before .before .args) .self) ((c .before .before .before .place) .ensures .0) ((c .before .before .place2) .ensures .0) ((c .before .place3) .ensures .0) ((c .place4) .ensures .0)
+returns c = places-from (c .before .before .before .before .args .self) (c .before .before .before .place .ensures .0) (c .before .before .place2 .ensures .0) (c .before .place3 .ensures .0) (c .place4 .ensures .0)
 
 pub places-spec : {M : Type 1} → statement M
 places-spec =

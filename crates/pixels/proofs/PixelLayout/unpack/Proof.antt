@@ -32,7 +32,7 @@ word-requires : tie.Need-word-requires
 word-requires c κs = search needs
 
 returns : tie.Need-returns
-returns c = let a = (c .before .before .before .before .before .args) in unpack-from (a .self) (a .t2) _ _ _ _ ((c .before .before .before .before .place) .ensures .0) ((c .before .before .before .place2) .ensures .0) ((c .before .before .place3) .ensures .0) ((c .before .place4) .ensures .0) ((c .word) .ensures)
+returns c = let a = c .before .before .before .before .before .args in unpack-from (a .self) (a .t2) _ _ _ _ (c .before .before .before .before .place .ensures .0) (c .before .before .before .place2 .ensures .0) (c .before .before .place3 .ensures .0) (c .before .place4 .ensures .0) (c .word .ensures)
 
 pub unpack-spec : {M : Type 1} → statement M
 unpack-spec =

@@ -9,13 +9,13 @@ row-requires : tie.Need-row-requires
 row-requires c κs = search needs
 
 mul-result : tie.Need-mul-result
-mul-result c = omega (arith, row-lt ((c .before .args) .layout))
+mul-result c = omega (arith, row-lt (c .before .args .layout))
 
 mul-result-2 : tie.Need-mul-result-2
 mul-result-2 c = search needs
 
 index-1-result : tie.Need-index-1-result
-index-1-result c = omega (arith, row-lt ((c .before .args) .layout))
+index-1-result c = omega (arith, row-lt (c .before .args .layout))
 
 index-2-result : tie.Need-index-2-result
 index-2-result c = search needs

@@ -17,7 +17,7 @@ enum-known-checked : tie.Need-enum-known-checked
 enum-known-checked c = search needs
 
 returns : tie.Need-returns
-returns c = flagged-refused ((c .before .checked) .given .0 .0) _ _ (sym (rw ((c .before .checked) .given .1) at ((c .before .before .before .check-picture) .ensures)))
+returns c = flagged-refused (c .before .checked .given .0 .0) _ _ (sym (rw (c .before .checked .given .1) at (c .before .before .before .check-picture .ensures)))
 
 enum-told : tie.Need-enum-told
 enum-told c = search needs
@@ -26,9 +26,9 @@ has-alpha-requires : tie.Need-has-alpha-requires
 has-alpha-requires c κs = search needs
 
 returns-2 : tie.Need-returns-2
-returns-2 c = let a = (c .before .before .before .before .before .args) in
-    let z = sym (rw ((c .before .enum-told) .given .1) at ((c .before .before .before .check-picture) .ensures)) in
-    flagged-accepted _ _ z (flag-of (a .layout) (a .pixels .now) (a .pixels .now) (a .size .width * a .size .height) ((c .has-alpha) .ensures) refl (omega (arith, picture-long (a .size) (length (a .pixels .now)) z)))
+returns-2 c = let a = c .before .before .before .before .before .args in
+    let z = sym (rw (c .before .enum-told .given .1) at (c .before .before .before .check-picture .ensures)) in
+    flagged-accepted _ _ z (flag-of (a .layout) (a .pixels .now) (a .pixels .now) (a .size .width * a .size .height) (c .has-alpha .ensures) refl (omega (arith, picture-long (a .size) (length (a .pixels .now)) z)))
 
 pub picture-has-alpha-spec : {M : Type 1} → statement M
 picture-has-alpha-spec =
