@@ -1,17 +1,17 @@
 // The job (document 01, "The job"; the Rust: Rescaler and rescale_plane of geometry.rs): a record by value that every call takes and hands back.
 // The caller lends the rows, the work values and the output row. Fields are public: a record that meets the rules counts, whoever filled it.
+use pictures::window;
 use pixels::Checked;
 use pixels::Dimensions;
 use pixels::PixelLayout;
 use pixels::Rect;
 use pixels::Refusal;
 use pixels::check_sizes;
-use pixels::window;
 use rows::Restored;
 use rows::add_halves;
 use rows::import_row;
-use rows::restore_row;
-use rows::scale_row;
+use rows_out::restore_row;
+use rows_out::scale_row;
 use schedule::rows_by;
 use schedule::used_rows;
 ghost use mathlib.Core.Path.{_≡_};

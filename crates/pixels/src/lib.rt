@@ -1,17 +1,9 @@
 // Pixels: sizes, layouts and why a call is turned away (document 01, "Lanes", "Beside the job", "Why a call is turned away"; the Rust: image.rs and the
 // crop of geometry.rs). Every function answers for all arguments. Fields are public: a value counts, whoever filled it, and is tested where it is used.
-pub use layout::argb_has_alpha;
-pub use layout::pack_pixels;
-pub use layout::unpack_pixels;
-pub use picture::apply_alpha_plane;
-pub use picture::crop;
-pub use picture::has_alpha;
-pub use picture::picture_has_alpha;
-pub use picture::window;
+pub use sizes::bad_size;
 pub use sizes::check_sizes;
 
 mod layout;
-mod picture;
 mod sizes;
 
 // Largest side of a picture, in pixels (the Rust's name): a bitstream stores a side less one in 14 bits.

@@ -19,7 +19,8 @@ fn bad_side(side: u64) -> bool
     side > MAX_DIMENSION as u64
 }
 
-pub(crate) fn bad_size(size: Dimensions) -> bool
+// A side is 0 or above the limit: number 1 of one size. Rules out: only the width tested; a side of 16,384 refused.
+pub fn bad_size(size: Dimensions) -> bool
     ensures { λ r. ⌜ r ≡ badSize size ⌝ }
 {
     if bad_side(size.width as u64) {
