@@ -1,7 +1,9 @@
+pub mod Orders
 pub mod Products
 pub mod Quotients
 pub mod Words
 pub mod Sums
 pub mod Tables
+pub mod Weights
 pub mod FixedPoints
 pub mod Mattes

@@ -1,0 +1,5 @@
+pub mod Rules
+pub mod Counting
+pub mod Views
+pub mod Answering
+pub mod Accepting

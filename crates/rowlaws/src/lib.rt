@@ -1,0 +1,1 @@
+// What is true of the definitions of rows: no code.
