@@ -1,7 +1,7 @@
 -- What the words of the boundary stand for, and what an answer stored in lent words comes to. Assumes nothing.
 use Prim.Native.Nat.{ℕ, zero, suc, _≤_, _<_}
 use mathlib.Core.Path.{_≡_, refl, sym, _∙_}
-use mathlib.Core.Bool.{Bool, true, false, cond, _||_, true≢false}
+use mathlib.Core.Bool.{Bool, true, false, cond, not, _||_, true≢false}
 use mathlib.Core.List.{List, [], _∷_, _++_}
 use native.Mathlib.Nat.{zero-add}
 use native.Mathlib.Omega.{arith}
@@ -18,7 +18,7 @@ use Rattle.pixels.specs.declared.Sized.{Sized}
 use Rattle.pixels.specs.declared.Sized.the-variants as sized
 use Rattle.pixels.specs.Refusals.{number, bufferIf, flagIf, sizeIf, flaggedNumber, flaggedFlag, sizedNumber, sizedSize}
 use Rattle.pixels.proofs.Numbers.{number-pos}
-use Rattle.capi.specs.Boundary.{boundary, boundaryFirst, wordLayout, noLayout, flagWord, stored, storedFlag, storedSize, flagMisused}
+use Rattle.capi.specs.Boundary.{boundary, boundaryFirst, wordLayout, isLayout, flagWord, stored, storedFlag, storedSize, misused}
 
 -- every word but 1 and 2 stands for the first layout
 pub first-layout : (word : ℕ) → (word ≡ 1 → ⊥) → (word ≡ 2 → ⊥) → Rgba8 ≡ wordLayout word
@@ -28,16 +28,16 @@ first-layout (suc (suc zero)) a b = absurd (b refl)
 first-layout (suc (suc (suc word))) a b = refl
 
 -- ---- the boundary's number
-pub misused-layout : (layout lent : ℕ) → 3 ≤ layout → true ≡ flagMisused layout lent
-misused-layout layout lent h = simp (le-ltb layout 3 h)
+pub misused-layout : (layout lent need : ℕ) → 3 ≤ layout → true ≡ misused layout lent need
+misused-layout layout lent need h = simp (le-ltb layout 3 h)
 
 neither : (a b : Bool) → (a || b) ≡ false → b ≡ false
 neither false b e = e
 neither true b e = absurd (true≢false e)
 
--- a call that is not misused was lent a word
-pub lent-word : (layout lent : ℕ) {t : Bool} → t ≡ flagMisused layout lent → t ≡ false → 1 ≤ lent
-lent-word layout lent e f = ltb-false lent 1 (neither (noLayout layout) (ltb lent 1) (sym e ∙ f))
+-- a call that is not misused was lent the words that its answer takes
+pub lent-enough : (layout lent need : ℕ) {t : Bool} → t ≡ misused layout lent need → t ≡ false → need ≤ lent
+lent-enough layout lent need e f = ltb-false lent need (neither (not (isLayout layout)) (ltb lent need) (sym e ∙ f))
 
 pub misuse-told : (n : ℕ) {t b : Bool} → t ≡ b → t ≡ true → boundary ≡ boundaryFirst b n
 misuse-told n e f = simp (sym e ∙ f)

@@ -2,7 +2,7 @@
 use Prim.Native.Nat.{ℕ}
 use mathlib.Core.Bool.{Bool, cond, not, _||_}
 use mathlib.Core.List.{List, [], _∷_, _++_}
-use lib.Dec.{ltb}
+use lib.Dec.{eqb, leb, ltb}
 use lib.ListN.{length, getD, drop}
 use Rattle.pixels.specs.declared.Dimensions.{Dimensions}
 use Rattle.pixels.specs.declared.PixelLayout.{PixelLayout}
@@ -24,8 +24,8 @@ layouts = Rgba8 ∷ Argb8 ∷ Bgra8 ∷ []
 abbrev pub wordLayout : ℕ → PixelLayout
 wordLayout word = getD layouts word Rgba8
 
-abbrev pub noLayout : ℕ → Bool
-noLayout word = not (ltb word (length layouts))
+abbrev pub isLayout : ℕ → Bool
+isLayout word = ltb word (length layouts)
 
 abbrev pub layoutWord : PixelLayout → ℕ
 layoutWord Rgba8 = 0
@@ -34,6 +34,12 @@ layoutWord Bgra8 = 2
 
 abbrev pub flagWord : Bool → ℕ
 flagWord flag = cond flag 1 0
+
+abbrev pub isFlag : ℕ → Bool
+isFlag word = leb word 1
+
+abbrev pub wordFlag : ℕ → Bool
+wordFlag word = eqb word 1
 
 -- ---- answers
 -- lent words after an answer was stored: its words first, the rest as it was
@@ -46,6 +52,9 @@ storedFlag flag words = stored (flagWord flag ∷ []) words
 abbrev pub storedSize : Dimensions → List ℕ → List ℕ
 storedSize size words = stored (size .width ∷ size .height ∷ []) words
 
--- a call whose answer is one word: a layout argument that is none, or no word lent
-abbrev pub flagMisused : ℕ → ℕ → Bool
-flagMisused layout lent = noLayout layout || ltb lent 1
+abbrev pub storedWord : ℕ → List ℕ → List ℕ
+storedWord word words = stored (word ∷ []) words
+
+-- what the boundary refuses: a layout argument that is none, or fewer words lent for the answer than it takes
+abbrev pub misused : ℕ → ℕ → ℕ → Bool
+misused layout lent need = not (isLayout layout) || ltb lent need

@@ -1,5 +1,8 @@
 // The library for C (include/jonquilsaw.h): numbers and slices only. In C a slice is a pointer, then a count of elements. Every function answers for all
 // arguments: 0 where the call was accepted, document 01's number where it was refused, and BOUNDARY for what only this boundary can be asked, tested first.
+use job::Job;
+use job::Plan;
+use job::Started;
 use pixels::Dimensions;
 use pixels::Flagged;
 use pixels::PixelLayout;
@@ -13,10 +16,16 @@ ghost use lib.ListN.{length};
 ghost use Rattle.pixels.specs.Refusals.{number, bufferIf, flaggedNumber, flaggedFlag};
 ghost use Rattle.pixels.specs.Sizes.{sizeOf, rectOf, scaledNumber, scaledSize};
 ghost use Rattle.pixels.specs.Picture.{hasAlpha, pictureNumber, cropped, cropNumber, withAlpha, alphaNumber};
-ghost use Rattle.capi.specs.Boundary.{boundaryFirst, wordLayout, flagWord, stored, storedFlag, storedSize, flagMisused};
+ghost use Rattle.job.specs.Record.{fresh};
+ghost use Rattle.job.specs.Calls.{startNumber, startWork};
+ghost use Rattle.capi.specs.Words.{recordLength, recordWords, wordsPlan, wordsJob, wordsLegal, recordFirst, storedJob};
+ghost use Rattle.capi.specs.Boundary.{boundaryFirst, misused, wordLayout, layoutWord, flagWord, stored, storedFlag, storedWord, storedSize};
 
 // Above every number of documents 01 and 02: a layout argument that is none, or an answer slice that is too short.
 const BOUNDARY: u32 = 100;
+
+// How many words a record takes.
+const RECORD_WORDS: usize = 12;
 
 // Layouts are numbered from 0 in the order of PixelLayout.
 const LAYOUTS: u32 = 3;
@@ -50,6 +59,16 @@ fn number_of(why: Refusal) -> u32
     }
 }
 
+fn layout_word(layout: PixelLayout) -> u32
+    ensures { λ r. ⌜ r ≡ layoutWord layout ⌝ }
+{
+    match layout {
+        PixelLayout::Rgba8 => 0,
+        PixelLayout::Argb8 => 1,
+        PixelLayout::Bgra8 => 2,
+    }
+}
+
 fn flag_word(flag: bool) -> u32
     ensures { λ r. ⌜ r ≡ flagWord flag ⌝ }
 {
@@ -71,16 +90,87 @@ fn store(answer: &[u32], words: &mut [u32])
     }
 }
 
-// ---- flags
-
-fn flag_misused(layout: u32, lent: usize) -> bool
-    ensures { λ r. ⌜ r ≡ flagMisused layout lent ⌝ }
+// A layout argument that is none, or fewer words lent for the answer than it takes.
+fn misused(layout: u32, lent: usize, need: usize) -> bool
+    ensures { λ r. ⌜ r ≡ misused layout lent need ⌝ }
 {
     if layout >= LAYOUTS {
         return true;
     }
-    lent < 1
+    lent < need
 }
+
+// ---- the record
+
+// Whether the words make a record: enough of them, the layout's and the flag's among their values.
+fn legal(words: &[u32]) -> bool
+    ensures { λ r. ⌜ r ≡ wordsLegal (now (words .entry)) ⌝ }
+{
+    if words.len() < RECORD_WORDS {
+        return false;
+    }
+    if words[2] >= LAYOUTS {
+        return false;
+    }
+    words[11] <= 1
+}
+
+fn read_job(words: &[u32]) -> Job
+    requires { ⌜ recordLength ≤ length (now words) ⌝ }
+    ensures { λ r. ⌜ r ≡ wordsJob (now (words .entry)) ⌝ }
+{
+    let source = Dimensions {
+        width: words[0],
+        height: words[1],
+    };
+    let crop = Rect {
+        x: words[3],
+        y: words[4],
+        width: words[5],
+        height: words[6],
+    };
+    let target = Dimensions {
+        width: words[7],
+        height: words[8],
+    };
+    let layout = layout_of(words[2]);
+    let plan = Plan {
+        source: source,
+        layout: layout,
+        crop: crop,
+        target: target,
+    };
+    Job {
+        plan: plan,
+        accepted: words[9],
+        taken: words[10],
+        flag: words[11] == 1,
+    }
+}
+
+fn store_job(job: Job, words: &mut [u32])
+    requires { ⌜ recordLength ≤ length (now words) ⌝ }
+    ensures { λ _. ⌜ now (words .exit) ≡ storedJob job (now (words .entry)) ⌝ }
+{
+    let plan = job.plan;
+    let answer = [
+        plan.source.width,
+        plan.source.height,
+        layout_word(plan.layout),
+        plan.crop.x,
+        plan.crop.y,
+        plan.crop.width,
+        plan.crop.height,
+        plan.target.width,
+        plan.target.height,
+        job.accepted,
+        job.taken,
+        flag_word(job.flag),
+    ];
+    store(&answer, words);
+}
+
+// ---- flags
 
 fn store_flag(answer: Flagged, flag: &mut [u32]) -> u32
     requires { ⌜ 1 ≤ length (now flag) ⌝ }
@@ -98,6 +188,53 @@ fn store_flag(answer: Flagged, flag: &mut [u32]) -> u32
 
 // ---- the exported functions
 
+// A fresh job: its record in lent words, and the work rows cleared.
+// Rules out: a record stored although the call was refused; a word after the record's last touched; crop and target exchanged.
+#[no_mangle]
+pub extern "C" fn jonquilsaw_start(
+    source_width: u32,
+    source_height: u32,
+    layout: u32,
+    crop_x: u32,
+    crop_y: u32,
+    crop_width: u32,
+    crop_height: u32,
+    target_width: u32,
+    target_height: u32,
+    work: &mut [u32],
+    record: &mut [u32],
+) -> u32
+    ensures number { λ r. ⌜ r ≡ boundaryFirst (misused layout (length (now («record» .entry))) recordLength) (startNumber (wordsPlan «source_width» «source_height» layout «crop_x» «crop_y» «crop_width» «crop_height» «target_width» «target_height») (length (now (work .entry)))) ⌝ }
+    ensures work { λ r. ⌜ now (work .exit) ≡ bufferIf r (startWork (wordsPlan «source_width» «source_height» layout «crop_x» «crop_y» «crop_width» «crop_height» «target_width» «target_height») (now (work .entry))) (now (work .entry)) ⌝ }
+    ensures record { λ r. ⌜ now («record» .exit) ≡ bufferIf r (storedJob (fresh (wordsPlan «source_width» «source_height» layout «crop_x» «crop_y» «crop_width» «crop_height» «target_width» «target_height»)) (now («record» .entry))) (now («record» .entry)) ⌝ }
+{
+    if misused(layout, record.len(), RECORD_WORDS) {
+        return BOUNDARY;
+    }
+    let source = Dimensions {
+        width: source_width,
+        height: source_height,
+    };
+    let crop = Rect {
+        x: crop_x,
+        y: crop_y,
+        width: crop_width,
+        height: crop_height,
+    };
+    let target = Dimensions {
+        width: target_width,
+        height: target_height,
+    };
+    let answer = job::start(source, layout_of(layout), crop, target, work);
+    match answer {
+        Started::Refused { why } => number_of(why),
+        Started::Fresh { job } => {
+            store_job(job, record);
+            0
+        }
+    }
+}
+
 // The alpha flag of a picture, 0 or 1, in one lent word.
 // Rules out: the flag stored although the call was refused; 1 told before the boundary's number; a flag word other than 0 or 1.
 #[no_mangle]
@@ -108,10 +245,10 @@ pub extern "C" fn jonquilsaw_has_alpha(
     pixels: &[u8],
     flag: &mut [u32],
 ) -> u32
-    ensures number { λ r. ⌜ r ≡ boundaryFirst (flagMisused layout (length (now (flag .entry)))) (pictureNumber (sizeOf width height) (length (now (pixels .entry)))) ⌝ }
+    ensures number { λ r. ⌜ r ≡ boundaryFirst (misused layout (length (now (flag .entry))) 1) (pictureNumber (sizeOf width height) (length (now (pixels .entry)))) ⌝ }
     ensures flag { λ r. ⌜ now (flag .exit) ≡ bufferIf r (storedFlag (hasAlpha (wordLayout layout) (now (pixels .entry)) (width * height)) (now (flag .entry))) (now (flag .entry)) ⌝ }
 {
-    if flag_misused(layout, flag.len()) {
+    if misused(layout, flag.len(), 1) {
         return BOUNDARY;
     }
     let answer = pixels::picture_has_alpha(Dimensions { width, height }, layout_of(layout), pixels);
@@ -133,11 +270,11 @@ pub extern "C" fn jonquilsaw_crop(
     out: &mut [u8],
     flag: &mut [u32],
 ) -> u32
-    ensures number { λ r. ⌜ r ≡ boundaryFirst (flagMisused layout (length (now (flag .entry)))) (cropNumber (sizeOf «source_width» «source_height») (rectOf «crop_x» «crop_y» «crop_width» «crop_height») (length (now (pixels .entry))) (length (now (out .entry)))) ⌝ }
+    ensures number { λ r. ⌜ r ≡ boundaryFirst (misused layout (length (now (flag .entry))) 1) (cropNumber (sizeOf «source_width» «source_height») (rectOf «crop_x» «crop_y» «crop_width» «crop_height») (length (now (pixels .entry))) (length (now (out .entry)))) ⌝ }
     ensures out { λ r. ⌜ now (out .exit) ≡ bufferIf r (cropped (sizeOf «source_width» «source_height») (rectOf «crop_x» «crop_y» «crop_width» «crop_height») (now (pixels .entry))) (now (out .entry)) ⌝ }
     ensures flag { λ r. ⌜ now (flag .exit) ≡ bufferIf r (storedFlag (hasAlpha (wordLayout layout) (cropped (sizeOf «source_width» «source_height») (rectOf «crop_x» «crop_y» «crop_width» «crop_height») (now (pixels .entry))) («crop_width» * «crop_height»)) (now (flag .entry))) (now (flag .entry)) ⌝ }
 {
-    if flag_misused(layout, flag.len()) {
+    if misused(layout, flag.len(), 1) {
         return BOUNDARY;
     }
     let source = Dimensions {
@@ -165,11 +302,11 @@ pub extern "C" fn jonquilsaw_apply_alpha_plane(
     plane: &[u8],
     flag: &mut [u32],
 ) -> u32
-    ensures number { λ r. ⌜ r ≡ boundaryFirst (flagMisused layout (length (now (flag .entry)))) (alphaNumber (sizeOf width height) (length (now (pixels .entry))) (length (now (plane .entry)))) ⌝ }
+    ensures number { λ r. ⌜ r ≡ boundaryFirst (misused layout (length (now (flag .entry))) 1) (alphaNumber (sizeOf width height) (length (now (pixels .entry))) (length (now (plane .entry)))) ⌝ }
     ensures pixels { λ r. ⌜ now (pixels .exit) ≡ bufferIf r (withAlpha (wordLayout layout) (now (pixels .entry)) (now (plane .entry))) (now (pixels .entry)) ⌝ }
     ensures flag { λ r. ⌜ now (flag .exit) ≡ bufferIf r (storedFlag (hasAlpha (wordLayout layout) (withAlpha (wordLayout layout) (now (pixels .entry)) (now (plane .entry))) (width * height)) (now (flag .entry))) (now (flag .entry)) ⌝ }
 {
-    if flag_misused(layout, flag.len()) {
+    if misused(layout, flag.len(), 1) {
         return BOUNDARY;
     }
     let answer = pixels::apply_alpha_plane(
