@@ -2,7 +2,7 @@
 -- matted bytes of the closed form; and a row goes out as the closed form of its lanes. Assumes nothing.
 use Prim.Native.Nat.{ℕ, zero, suc, _+_, _-_, _*_, _/_, _%_, _^_, _≤_, _<_}
 use mathlib.Core.Path.{_≡_, refl, sym, ap, _∙_}
-use mathlib.Core.Bool.{true, false}
+use mathlib.Core.Bool.{false}
 use mathlib.Core.List.{List}
 use native.Mathlib.Omega.{arith}
 use native.Mathlib.Nat.{le-antisymm, le-refl, mul-le-mul-left}
@@ -10,12 +10,12 @@ use lib.ListN.{length, getD, take, drop}
 use lib.Seq.{getD-take, getD-drop}
 use lib.Dec.{leb}
 use borrow.Author.Tests.{le-leb}
-use Rattle.arithmetic.specs.Matte.{laneOf, multArgb}
-use Rattle.arithmetic.proofs.Mattes.{lane-byte}
+use Rattle.arithmetic.specs.Matte.{laneOf, pixelOf, multArgb}
+use Rattle.arithmetic.proofs.Mattes.{lane-byte, pixel-cong}
 use Rattle.pixels.specs.declared.PixelLayout.{PixelLayout}
 use Rattle.pixels.specs.Sizes.{lanes, rowBytes, halfValues, Fits}
-use Rattle.pixels.specs.Layout.{placeOf, wordOf, laneAt, pixelAt, packedByte}
-use Rattle.pixels.specs.Lanes.{matted, restoredPixel, restoredPlace}
+use Rattle.pixels.specs.Layout.{placeOf, laneAt, pixelAt}
+use Rattle.pixels.specs.Lanes.{matted}
 use Rattle.pixels.specs.Picture.{windowOf}
 use Rattle.pixels.proofs.Tabled.{place-lt}
 use Rattle.rows.specs.Column.{value}
@@ -34,9 +34,6 @@ cropValue p b c x = value (mattedByte p b (x % lanes) c) (p .crop .width) (p .ta
 pub value-cong : (p q : ℕ → ℕ) (n m j : ℕ) → j < m → ((i : ℕ) → i < n → p i ≡ q i) → value p n m j ≡ value q n m j
 value-cong p q n m j within same =
     le-antisymm (value-mono p q n m j within (λ i l. omega (arith, same i l))) (value-mono q p n m j within (λ i l. omega (arith, same i l)))
-
-pub word-cong : (v w : ℕ → ℕ) → ((k : ℕ) → k < lanes → v k ≡ w k) → wordOf v ≡ wordOf w
-word-cong v w h = omega (arith, h 0 (omega arith), h 1 (omega arith), h 2 (omega arith), h 3 (omega arith))
 
 -- ---- the window of a row
 module _ (row : List ℕ) (x w : ℕ) (inside : rowBytes (x + w) ≤ length row) where
@@ -65,7 +62,7 @@ module _ (p : Plan) (b : ℕ → ℕ) (row : List ℕ) (c : ℕ) (fits : Fits (p
   unfolding matted mattedByte pixelAt
   matted-is k i l =
       ap (λ (t : ℕ). laneOf (multArgb t false) k)
-      (word-cong (laneAt (p .layout) (windowOf row (p .crop .x) (p .crop .width)) i) (sourceByte p b c i) (λ k' u. window-lane i k' l u))
+      (pixel-cong (laneAt (p .layout) (windowOf row (p .crop .x) (p .crop .width)) i) (sourceByte p b c i) (λ k' u. window-lane i k' l u))
 
   pub values-are : (x : ℕ) → x < halfValues (p .target .width) → valuesOf p row x ≡ cropValue p b c x
   unfolding rowValue cropValue
@@ -76,17 +73,10 @@ module _ (p : Plan) (b : ℕ → ℕ) (row : List ℕ) (c : ℕ) (fits : Fits (p
 -- ---- values are words, matted bytes are bytes
 pub matted-small : (p : Plan) (b : ℕ → ℕ) (k c i : ℕ) → mattedByte p b k c i ≤ 255
 unfolding mattedByte
-matted-small p b k c i = lane-byte (multArgb (wordOf (sourceByte p b c i)) false) k
+matted-small p b k c i = lane-byte (multArgb (pixelOf (sourceByte p b c i)) false) k
 
 pub cropValue-word : (p : Plan) (b : ℕ → ℕ) → Fits (p .source) (p .crop) (p .target) → (c x : ℕ) → x < halfValues (p .target .width) → cropValue p b c x < 2 ^ 32
 unfolding cropValue
 cropValue-word p b fits c x l =
     value-word (mattedByte p b (x % lanes) c) (p .crop .width) (p .target .width) (x / lanes) (fits .crop-width) (fits .target-width .most) (omega arith)
     (λ i u. matted-small p b (x % lanes) c i) (omega (arith, fits .right, fits .source-width .most))
-
--- ---- restoring and packing look at the lanes of the same pixel alone
-pub restored-cong : (l : PixelLayout) (v w : ℕ → ℕ) (m z : ℕ) → z < rowBytes m → ((x : ℕ) → x < halfValues m → v x ≡ w x) → restoredPlace l v z ≡ restoredPlace l w z
-unfolding restoredPlace restoredPixel packedByte
-restored-cong l v w m z h same =
-    ap (λ (t : ℕ). laneOf (multArgb t true) (placeOf l (z % lanes)))
-    (word-cong (λ k. v (lanes * (z / lanes) + k)) (λ k. w (lanes * (z / lanes) + k)) (λ k u. same (lanes * (z / lanes) + k) (omega arith)))

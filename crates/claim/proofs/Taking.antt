@@ -7,12 +7,13 @@ use mathlib.Core.List.{List}
 use native.Mathlib.Omega.{arith}
 use lib.ListN.{length, getD}
 use Rattle.arithmetic.specs.Matte.{laneOf, multArgb, pixelOf}
+use Rattle.arithmetic.proofs.Mattes.{pixel-cong}
 use Rattle.arithmetic.specs.Weight.{span}
 use Rattle.arithmetic.specs.Table.{tabulate}
 use Rattle.arithmetic.proofs.Tables.{length-tabulate, getD-tabulate, tabulate-cong}
 use Rattle.pixels.specs.declared.PixelLayout.{PixelLayout}
 use Rattle.pixels.specs.Sizes.{lanes, rowBytes, halfValues, workValues, Fits}
-use Rattle.pixels.specs.Layout.{placeOf, alphaLane, wordOf, packedByte}
+use Rattle.pixels.specs.Layout.{placeOf, alphaLane, packedByte}
 use Rattle.pixels.specs.Lanes.{restoredPixel, restoredPlace}
 use Rattle.pixels.proofs.Tabled.{place-lt, place-twice}
 use Rattle.schedule.specs.Schedule.{used, needed}
@@ -30,7 +31,8 @@ use Rattle.job.specs.declared.Job.{Job}
 use Rattle.job.specs.Record.{R, Rules}
 use Rattle.job.specs.Calls.{usedBy, rowTaken, workTaken}
 use Rattle.claim.specs.Rows.{sourceByte, mattedByte, scaledLane, rowOf}
-use Rattle.claim.proofs.Reading.{cropValue, cropValue-word, matted-small, word-cong, restored-cong}
+use Rattle.job.proofs.Restoring.{restored-cong}
+use Rattle.claim.proofs.Reading.{cropValue, cropValue-word, matted-small}
 use Rattle.claim.proofs.Feeding.{Holds}
 
 -- ---- a take: the row that goes out, and what is left
@@ -77,7 +79,7 @@ module _ (p : Plan) (b : ℕ → ℕ) (y i : ℕ) (inside : i < p .target .width
       rw (q, d)
 
   pub row-lane : (k : ℕ) → k < lanes → getD (rowOf p b y) (lanes * i + placeOf (p .layout) k) 0 ≡ laneOf pixel k
-  unfolding rowOf restoredPlace packedByte restoredPixel pixelOf
+  unfolding rowOf restoredPlace packedByte restoredPixel
   row-lane k l =
       let small = place-lt (p .layout) k l in
       let z : ℕ = lanes * i + placeOf (p .layout) k in
@@ -85,7 +87,7 @@ module _ (p : Plan) (b : ℕ → ℕ) (y i : ℕ) (inside : i < p .target .width
       let d : (lanes * i + placeOf (p .layout) k) / lanes ≡ i = omega arith in
       getD-tabulate _ (rowBytes (p .target .width)) z (omega arith)
       ∙ rw (q, d, place-twice (p .layout) k l)
-      (ap (λ (t : ℕ). laneOf (multArgb t true) k) (word-cong _ _ lane-of))
+      (ap (λ (t : ℕ). laneOf (multArgb t true) k) (pixel-cong _ _ lane-of))
 
   -- ---- near the exact mean
   module _ (fits : Fits (p .source) (p .crop) (p .target)) (row : y < p .target .height) (premise : Premise (span (p .crop .width) (p .target .width)) (p .crop .height) (p .target .height)) where
@@ -96,7 +98,7 @@ module _ (p : Plan) (b : ℕ → ℕ) (y i : ℕ) (inside : i < p .target .width
 
     matted-picture : Matted (p .crop .width) (p .crop .height) (mattedByte p b)
     unfolding mattedByte
-    matted-picture = matte-matted (p .crop .width) (p .crop .height) (λ c i'. wordOf (sourceByte p b c i'))
+    matted-picture = matte-matted (p .crop .width) (p .crop .height) (λ c i'. pixelOf (sourceByte p b c i'))
 
     pub alpha-near : Near (getD (rowOf p b y) (lanes * i + placeOf (p .layout) alphaLane) 0) (exactSum (p .crop .width) (p .target .width) (p .crop .height) (p .target .height) (mattedByte p b alphaLane) i y) (total (p .crop .width) (p .target .width) (p .crop .height) (p .target .height))
     alpha-near =

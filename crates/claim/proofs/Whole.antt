@@ -30,7 +30,9 @@ use Rattle.job.specs.declared.Plan.{Plan}
 use Rattle.job.specs.Record.{R}
 use Rattle.claim.specs.Rows.{sourceByte, mattedByte, scaledLane, rowOf, joined, rowsOf, resizePlan, resized, resizedFlag}
 use Rattle.claim.specs.Calls.{Run}
-use Rattle.claim.proofs.Reading.{value-cong, word-cong, window-byte, restored-cong}
+use Rattle.arithmetic.proofs.Mattes.{pixel-cong}
+use Rattle.job.proofs.Restoring.{restored-cong}
+use Rattle.claim.proofs.Reading.{value-cong, window-byte}
 use Rattle.claim.proofs.Feeding.{row-length, row-byte}
 use Rattle.claim.proofs.Flagged.{joined-append}
 
@@ -158,7 +160,7 @@ module _ (p : Plan) (pixels : List ℕ) (fits : Fits (p .source) (p .crop) (p .t
   unfolding mattedByte
   matted-same k c i l u =
       ap (λ (t : ℕ). laneOf (multArgb t false) k)
-      (word-cong (sourceByte p (sourceOf pixels) c i) (sourceByte (wholePlan p) (croppedOf p pixels) c i) (λ k' v. same-byte c i k' l u v))
+      (pixel-cong (sourceByte p (sourceOf pixels) c i) (sourceByte (wholePlan p) (croppedOf p pixels) c i) (λ k' v. same-byte c i k' l u v))
 
   lane-same : (y x : ℕ) → y < p .target .height → x < halfValues (p .target .width)
       → scaledLane p (sourceOf pixels) y x ≡ scaledLane (wholePlan p) (croppedOf p pixels) y x

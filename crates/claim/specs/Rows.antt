@@ -5,12 +5,12 @@ use mathlib.Core.Bool.{Bool, false}
 use mathlib.Core.List.{List, [], _∷_, _++_}
 use lib.ListN.{getD}
 use Rattle.arithmetic.specs.Table.{tabulate}
-use Rattle.arithmetic.specs.Matte.{laneOf, multArgb}
+use Rattle.arithmetic.specs.Matte.{laneOf, pixelOf, multArgb}
 use Rattle.pixels.specs.declared.Dimensions.{Dimensions}
 use Rattle.pixels.specs.declared.Rect.{Rect}
 use Rattle.pixels.specs.declared.PixelLayout.{PixelLayout}
 use Rattle.pixels.specs.Sizes.{lanes, rowBytes, rectOf}
-use Rattle.pixels.specs.Layout.{placeOf, wordOf}
+use Rattle.pixels.specs.Layout.{placeOf}
 use Rattle.pixels.specs.Lanes.{restoredPlace}
 use Rattle.pixels.specs.Picture.{hasAlpha}
 use Rattle.rows.specs.Closed.{scaled}
@@ -23,7 +23,7 @@ sourceByte p b c i k = b (rowBytes (p .source .width) * (p .crop .y + c) + (lane
 
 -- "The matted bytes are the accepted rows inside the crop after mult_argb (matte)"
 unfoldable pub mattedByte : Plan → (ℕ → ℕ) → ℕ → ℕ → ℕ → ℕ
-mattedByte p b k c i = laneOf (multArgb (wordOf (sourceByte p b c i)) false) k
+mattedByte p b k c i = laneOf (multArgb (pixelOf (sourceByte p b c i)) false) k
 
 -- the byte at place x of output row y, before it is restored: lane x % lanes, column x / lanes
 unfoldable pub scaledLane : Plan → (ℕ → ℕ) → ℕ → ℕ → ℕ

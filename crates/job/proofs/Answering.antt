@@ -110,6 +110,51 @@ module _ (j : Job) (rows work : List ℕ) where
       let w = offer-went j rows work e in
       (sym e, (en ∙ sym (w .some), (ap (moreAccepted j) en ∙ sym (w .next), ew ∙ sym (w .work-after))))
 
+-- ---- take: 6, 4, 5, 9
+module _ (j : Job) (out work : List ℕ) where
+  abbrev Untaken : ℕ → Type 0
+  Untaken n =
+      (n ≡ takeNumber j (length out) (length work))
+      × ((j ≡ takeJob j (length out) work) × ((out ≡ takeOut j out work) × (work ≡ takeWork j (length out) work)))
+
+  take-away : (why : Refusal) → takeNumber j (length out) (length work) ≡ number why → Untaken (number why)
+  take-away why e =
+      let t = take-turned j out work (not-zero why _ e) in
+      (sym e, (sym (t .same), (sym (t .unwritten), sym (t .kept))))
+
+  pub take-unlawful : lawful j ≡ false → Untaken 6
+  unfolding takeNumber
+  take-unlawful a = take-away InvalidRecord (let q : takeNumber j (length out) (length work) ≡ number InvalidRecord = simp a in q)
+
+  module _ (a : lawful j ≡ true) where
+    pub take-length : (length out ≡ rowBytes (j .plan .target .width) → ⊥) → Untaken 4
+    unfolding takeNumber
+    take-length l = take-away OutputLength (let q : takeNumber j (length out) (length work) ≡ number OutputLength = simp (a, ne-eqb (length out) (rowBytes (j .plan .target .width)) l) in q)
+
+    module _ (l : length out ≡ rowBytes (j .plan .target .width)) where
+      pub take-short : length work < workValues (j .plan .target .width) → Untaken 5
+      unfolding takeNumber
+      take-short b =
+          take-away WorkLength
+          (let q : takeNumber j (length out) (length work) ≡ number WorkLength =
+          simp (a, eq-eqb (length out) (rowBytes (j .plan .target .width)) l, lt-ltb (length work) (workValues (j .plan .target .width)) b) in q)
+
+      module _ (b : workValues (j .plan .target .width) ≤ length work) (x : ℕ) (r : x ≡ R (j .plan) (j .accepted)) where
+        pub take-unready : x ≤ j .taken → Untaken 9
+        take-unready d = take-away NoneReady (take-none j (length out) (length work) (rules-of j a) l b (rw (← r) d))
+
+        pub taking : j .taken < x → takeNumber j (length out) (length work) ≡ 0
+        taking d = take-goes j (length out) (length work) (rules-of j a) l b (rw (← r) d)
+
+  pub take-writes : takeNumber j (length out) (length work) ≡ 0 → (row next : List ℕ) (flag : Bool) → row ≡ rowTaken j work → next ≡ workTaken j work
+      → flag ≡ (j .flag || hasAlpha (j .plan .layout) (rowTaken j work) (j .plan .target .width))
+      → (0 ≡ takeNumber j (length out) (length work))
+      × ((record { plan = j .plan; accepted = j .accepted; taken = j .taken + 1; flag = flag } ≡ takeJob j (length out) work)
+      × ((row ≡ takeOut j out work) × (next ≡ takeWork j (length out) work)))
+  take-writes e row next flag er en ef =
+      let w = take-went j out work e in
+      (sym e, (ap (λ (f : Bool). record { plan = j .plan; accepted = j .accepted; taken = j .taken + 1; flag = f }) ef ∙ sym (w .next), (er ∙ sym (w .out-after), en ∙ sym (w .work-after))))
+
 -- ---- the counts fit
 pub count-fits : (j : Job) (n x : ℕ) → Rules j → x ≡ count j n → j .accepted + x ≤ 16384
 count-fits j n x q e =

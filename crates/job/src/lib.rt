@@ -7,12 +7,17 @@ use pixels::Rect;
 use pixels::Refusal;
 use pixels::check_sizes;
 ghost use mathlib.Core.Path.{_≡_};
+ghost use mathlib.Core.Bool.{cond, _||_};
 ghost use mathlib.Core.List.{_++_};
 ghost use Prim.Native.Nat.{_-_, _≤_, min};
+ghost use lib.Dec.{leb};
 ghost use lib.ListN.{length, drop, replicate};
-ghost use Rattle.job.specs.Answers.{startedNumber, startedJob};
+ghost use Rattle.pixels.specs.Sizes.{rowBytes, halfValues, workValues, Fits};
+ghost use Rattle.rows.specs.WorkRows.{halfOf};
+ghost use Rattle.rows.specs.Restoring.{restoredFlag};
+ghost use Rattle.job.specs.Answers.{startedNumber, startedJob, offeredNumber, offeredRows, offeredJob, takenNumber, takenJob};
 ghost use Rattle.job.specs.Record.{R, planOf, fresh, lawful, readyOf, Rules};
-ghost use Rattle.job.specs.Calls.{startNumber, startWork, lentRows};
+ghost use Rattle.job.specs.Calls.{startNumber, startWork, lentRows, rowAccepted, fed, count, offerNumber, offerRows, offerJob, offerWork, takeNumber, takeJob, takeOut, takeWork};
 
 // What does not change in a job.
 pub struct Plan {
@@ -54,7 +59,7 @@ pub enum Taken {
 fn made(p: Plan, accepted: u32) -> u64
     ensures { λ r. ⌜ r ≡ R p accepted ⌝ }
 {
-    schedule::rows_by(p.crop.y, p.crop.height, p.target.height, accepted)
+    rows_by(p.crop.y, p.crop.height, p.target.height, accepted)
 }
 
 fn less_one(k: u32) -> u32
@@ -77,6 +82,82 @@ fn most_rows(j: Job, n: usize) -> u32
         return lent as u32;
     }
     left
+}
+
+// ---- a row comes in
+
+// Where in the work rows the values of crop row c go.
+fn half_for(p: Plan, c: u32) -> usize
+    ensures { λ r. ⌜ r ≡ cond (leb (p .target .height) (p .crop .height)) (halfValues (p .target .width)) (halfOf (halfValues (p .target .width)) c) ⌝ }
+{
+    let w = 4 * p.target.width as usize;
+    if p.target.height <= p.crop.height {
+        return w;
+    }
+    if c % 2 == 0 {
+        return w;
+    }
+    0
+}
+
+// Source row s. Its crop window is a part of the row as lent; the layer below refuses none of these calls.
+fn row_in(p: Plan, row: &[u8], s: u32, work: &mut [u32])
+    requires { ⌜ Fits (p .source) (p .crop) (p .target) × (length (now row) ≡ rowBytes (p .source .width)) × (workValues (p .target .width) ≤ length (now work)) ⌝ }
+    ensures { λ _. ⌜ now (work .exit) ≡ rowAccepted p (now (row .entry)) s (now (work .entry)) ⌝ }
+{
+    if s < p.crop.y {
+        return;
+    }
+    let c = s - p.crop.y;
+    if p.crop.height <= c {
+        return;
+    }
+    let at = half_for(p, c);
+    let part = window(row, p.crop.x, p.crop.width);
+    import_row(p.layout, p.crop.width, p.target.width, part, &mut work[at..]);
+    if p.crop.height < p.target.height {
+        return;
+    }
+    add_halves(p.target.width, work);
+}
+
+// The rows of an offer that passed its tests, one after another: "stops at the first row that makes an output row ready, at the last offered or at
+// the source's last".
+fn accept(j: Job, rows: &[u8], work: &mut [u32]) -> u32
+    requires { ⌜ offerNumber j (length (now rows)) (length (now work)) ≡ 0 ⌝ }
+    ensures rows { λ r. ⌜ r ≡ count j (length (now (rows .entry))) ⌝ }
+    ensures work { λ _. ⌜ now (work .exit) ≡ fed (j .plan) (now (rows .entry)) (j .accepted) (count j (length (now (rows .entry)))) (now (work .entry)) ⌝ }
+{
+    let most = most_rows(j, rows.len());
+    let stride = 4 * j.plan.source.width as usize;
+    let mut i: u32 = 0;
+    let n = loop {
+        let at = stride * i as usize;
+        row_in(j.plan, &rows[at..at + stride], j.accepted + i, work);
+        i += 1;
+        if i == most {
+            break i;
+        }
+        if (j.taken as u64) < made(j.plan, j.accepted + i) {
+            break i;
+        }
+    };
+    n
+}
+
+// ---- a row goes out
+
+// The flag so far, joined by that of the row just restored.
+fn flag_after(flag: bool, restored: Restored) -> bool
+    ensures { λ r. ⌜ r ≡ (flag || restoredFlag restored) ⌝ }
+{
+    if flag {
+        return true;
+    }
+    match restored {
+        Restored::Flag(f) => f,
+        Restored::Refused(_) => false,
+    }
 }
 
 // ---- the calls
@@ -171,5 +252,102 @@ impl Job {
             return 0;
         }
         (made(self.plan, self.accepted) - self.taken as u64) as u32
+    }
+
+    // Offers one or more whole source rows; returns how many were accepted.
+    // Rules out: an offer that goes on past the first row that makes an output row ready; a count that was not fed; 8 told while a row is ready.
+    pub fn offer(mut self, rows: &[u8], work: &mut [u32]) -> Offered
+        ensures number { λ r. ⌜ offeredNumber r ≡ offerNumber self (length (now (rows .entry))) (length (now (work .entry))) ⌝ }
+        ensures rows { λ r. ⌜ offeredRows r ≡ offerRows self (length (now (rows .entry))) (length (now (work .entry))) ⌝ }
+        ensures job { λ r. ⌜ offeredJob r ≡ offerJob self (length (now (rows .entry))) (length (now (work .entry))) ⌝ }
+        ensures work { λ _. ⌜ now (work .exit) ≡ offerWork self (now (rows .entry)) (now (work .entry)) ⌝ }
+    {
+        if !self.check() {
+            return Offered::Refused {
+                why: Refusal::InvalidRecord,
+                job: self,
+            };
+        }
+        if rows.len() == 0 {
+            return Offered::Refused {
+                why: Refusal::PixelBufferMismatch,
+                job: self,
+            };
+        }
+        if rows.len() % (4 * self.plan.source.width as usize) != 0 {
+            return Offered::Refused {
+                why: Refusal::PixelBufferMismatch,
+                job: self,
+            };
+        }
+        if work.len() < 8 * self.plan.target.width as usize {
+            return Offered::Refused {
+                why: Refusal::WorkLength,
+                job: self,
+            };
+        }
+        let k = self.accepted;
+        if (self.taken as u64) < made(self.plan, k) {
+            return Offered::Refused {
+                why: Refusal::RowReady,
+                job: self,
+            };
+        }
+        if self.plan.source.height <= k {
+            return Offered::Refused {
+                why: Refusal::AllAccepted,
+                job: self,
+            };
+        }
+        let n = accept(self, rows, work);
+        self.accepted = k + n;
+        Offered::Accepted { rows: n, job: self }
+    }
+
+    // Takes the next output row; its alpha flag joins the record's.
+    // Rules out: a row written twice or not at all; t advanced by a call that was turned away; the flag of an opaque row set.
+    pub fn take(mut self, out: &mut [u8], work: &mut [u32]) -> Taken
+        ensures number { λ r. ⌜ takenNumber r ≡ takeNumber self (length (now (out .entry))) (length (now (work .entry))) ⌝ }
+        ensures job { λ r. ⌜ takenJob r ≡ takeJob self (length (now (out .entry))) (now (work .entry)) ⌝ }
+        ensures out { λ _. ⌜ now (out .exit) ≡ takeOut self (now (out .entry)) (now (work .entry)) ⌝ }
+        ensures work { λ _. ⌜ now (work .exit) ≡ takeWork self (length (now (out .entry))) (now (work .entry)) ⌝ }
+    {
+        if !self.check() {
+            return Taken::Refused {
+                why: Refusal::InvalidRecord,
+                job: self,
+            };
+        }
+        let p = self.plan;
+        if out.len() != 4 * p.target.width as usize {
+            return Taken::Refused {
+                why: Refusal::OutputLength,
+                job: self,
+            };
+        }
+        if work.len() < 8 * p.target.width as usize {
+            return Taken::Refused {
+                why: Refusal::WorkLength,
+                job: self,
+            };
+        }
+        let t = self.taken;
+        if made(p, self.accepted) <= t as u64 {
+            return Taken::Refused {
+                why: Refusal::NoneReady,
+                job: self,
+            };
+        }
+        let u = used_rows(p.crop.y, p.crop.height, self.accepted);
+        let crop = Dimensions {
+            width: p.crop.width,
+            height: p.crop.height,
+        };
+        scale_row(crop, p.target, u, t, out, work);
+        let restored = restore_row(p.layout, p.target.width, out);
+        let flag = flag_after(self.flag, restored);
+        self.taken = t + 1;
+        self.flag = flag;
+        Taken::Wrote { job: self }
     }
 }

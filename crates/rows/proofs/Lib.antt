@@ -8,3 +8,5 @@ pub mod Shrinks
 pub mod Grows
 pub mod Dues
 pub mod Scalings
+pub mod Restores
+pub mod Restorings

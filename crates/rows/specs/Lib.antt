@@ -9,3 +9,5 @@ pub mod Incoming
 pub mod Import
 pub mod Scaling
 pub mod Export
+pub mod Restoring
+pub mod Pixelwise

@@ -302,10 +302,11 @@ pub fn scale_row(
         return Done::Refused(Refusal::InvalidDimensions);
     }
     let w = 4 * target.width as usize;
+    let both = 2 * w;
     if out.len() != w {
         return Done::Refused(Refusal::OutputLength);
     }
-    if work.len() < 2 * w {
+    if work.len() < both {
         return Done::Refused(Refusal::WorkLength);
     }
     if !due(crop.height, target.height, used, row) {

@@ -28,7 +28,9 @@ returns c =
     sym (due-down (a .h) (a .g) (a .used) (a .row) (c .before .if1 .taken))
 
 returns-2 : tie.Need-returns-2
-returns-2 c = let a = (c .before .before .args) in sym (due-none (a .h) (a .g) (a .used) (a .row) (c .before .if1 .left) (c .if2 .taken))
+returns-2 c =
+    let a = c .before .before .args in
+    sym (due-none (a .h) (a .g) (a .used) (a .row) (c .before .if1 .left) (c .if2 .taken))
 
 sub-in-range : tie.Need-sub-in-range
 sub-in-range c = search needs
@@ -43,7 +45,9 @@ cast-in-range-2 : tie.Need-cast-in-range-2
 cast-in-range-2 c = search needs
 
 mul-in-range-3 : tie.Need-mul-in-range-3
-mul-in-range-3 c = let a = (c .before .before .args) in omega (arith, most {x = a .used - 1} {y = a .g - 1} (omega arith) (omega arith))
+mul-in-range-3 c =
+    let a = c .before .before .args in
+    omega (arith, most {x = a .used - 1} {y = a .g - 1} (omega arith) (omega arith))
 
 sub-in-range-3 : tie.Need-sub-in-range-3
 sub-in-range-3 c = search needs
@@ -52,7 +56,9 @@ cast-in-range-3 : tie.Need-cast-in-range-3
 cast-in-range-3 c = search needs
 
 mul-in-range-4 : tie.Need-mul-in-range-4
-mul-in-range-4 c = let a = (c .before .before .args) in omega (arith, most {x = a .row} {y = a .h - 1} (omega arith) (omega arith))
+mul-in-range-4 c =
+    let a = c .before .before .args in
+    omega (arith, most {x = a .row} {y = a .h - 1} (omega arith) (omega arith))
 
 sub-in-range-4 : tie.Need-sub-in-range-4
 sub-in-range-4 c = search needs

@@ -1,6 +1,5 @@
 -- `grow_row` meets its contract: the two halves are lent as parts, and the loops' b and factor are document 01's. Assumes nothing.
 use Rattle.rows.proofs.Factors.{half-most, half-lent, grow-out, level-out}
-use mathlib.Core.Path.{_∙_}
 use Prim.Native.Nat.{_*_, _-_}
 use native.Mathlib.Omega.{arith}
 use Rattle.arithmetic.proofs.Products.{most}
@@ -22,7 +21,9 @@ cast-d-2 : tie.Need-cast-d-2
 cast-d-2 c = search needs
 
 mul-d : tie.Need-mul-d
-mul-d c = let a = (c .before .before .args) in omega (arith, most {x = a .used - 1} {y = a .g - 1} (omega arith) (omega arith))
+mul-d c =
+    let a = c .before .before .args in
+    omega (arith, most {x = a .used - 1} {y = a .g - 1} (omega arith) (omega arith))
 
 sub-d-3 : tie.Need-sub-d-3
 sub-d-3 c = search needs
@@ -31,10 +32,14 @@ cast-d-3 : tie.Need-cast-d-3
 cast-d-3 c = search needs
 
 mul-d-2 : tie.Need-mul-d-2
-mul-d-2 c = let a = (c .before .before .args) in omega (arith, most {x = a .row} {y = a .h - 1} (omega arith) (omega arith))
+mul-d-2 c =
+    let a = c .before .before .args in
+    omega (arith, most {x = a .row} {y = a .h - 1} (omega arith) (omega arith))
 
 sub-d-4 : tie.Need-sub-d-4
-sub-d-4 c = let a = (c .before .before .args) in range-low ((a .used - 1) * (a .g - 1)) (a .row * (a .h - 1)) (a .g - 1) (c .before .before .pre .0 .due)
+sub-d-4 c =
+    let a = c .before .before .args in
+    range-low ((a .used - 1) * (a .g - 1)) (a .row * (a .h - 1)) (a .g - 1) (c .before .before .pre .0 .due)
 
 cast-d-4 : tie.Need-cast-d-4
 cast-d-4 c =
@@ -109,13 +114,14 @@ same-length c = search needs
 
 returns : tie.Need-returns
 returns c =
-    let a = (c .before .before .before .before .before .before .before .before .before .before .before .before .before .args) in
-    (c .before .before .blend-lanes-any) .ensures ∙ grow-out (a .sp) (a .h) (a .g) (a .w) (a .used) (a .row) (a .work .now)
+    let a = c .before .before .before .before .before .before .before .before .before .before .before .before .before .args in
+    grow-out (a .sp) (a .h) (a .g) (a .w) (a .used) (a .row) (a .work .now)
     (c .before .before .before .before .before .before .before .before .before .before .before .before .before .pre .0 .up)
     (c .before .before .before .before .before .before .before .before .before .before .frac .ensures)
     (c .before .before .before .before .before .before .before .before .before .frac2 .ensures)
     (half-lent (a .work .now) (a .w) (c .before .before .before .before .before .before .before .before .half-of .ensures))
     (half-lent (a .work .now) (a .w) (c .before .before .before .before .before .before .half-of2 .ensures))
+    (c .before .before .blend-lanes-any .ensures)
 
 level-lanes-requires : tie.Need-level-lanes-requires
 level-lanes-requires c κs = search needs
@@ -125,14 +131,14 @@ same-length-2 c = search needs
 
 returns-2 : tie.Need-returns-2
 returns-2 c =
-    let a = (c .before .before .before .before .before .before .before .before .before .before .before .before .before .before .args) in
-    (c .before .before .level-lanes) .ensures ∙ level-out (a .sp) (a .h) (a .g) (a .w) (a .used) (a .row) (a .work .now)
+    let a = c .before .before .before .before .before .before .before .before .before .before .before .before .before .before .args in
+    level-out (a .sp) (a .h) (a .g) (a .w) (a .used) (a .row) (a .work .now)
     (c .before .before .before .before .before .before .before .before .before .before .before .before .before .before .pre .0 .up)
     (c .before .before .before .before .before .before .before .before .before .before .before .frac .ensures)
     (c .before .before .before .before .before .before .before .before .before .before .frac2 .ensures)
     (half-lent (a .work .now) (a .w) (c .before .before .before .before .before .before .before .before .before .half-of .ensures))
     (half-lent (a .work .now) (a .w) (c .before .before .before .before .before .before .before .half-of2 .ensures))
-    (c .before .before .before .before .if2 .taken)
+    (c .before .before .before .before .if2 .taken) (c .before .before .level-lanes .ensures)
 
 blend-lanes-requires : tie.Need-blend-lanes-requires
 blend-lanes-requires c κs = search needs
@@ -142,13 +148,14 @@ same-length-3 c = search needs
 
 returns-3 : tie.Need-returns-3
 returns-3 c =
-    let a = (c .before .before .before .before .before .before .before .before .before .before .before .before .before .before .args) in
-    (c .before .before .blend-lanes) .ensures ∙ grow-out (a .sp) (a .h) (a .g) (a .w) (a .used) (a .row) (a .work .now)
+    let a = c .before .before .before .before .before .before .before .before .before .before .before .before .before .before .args in
+    grow-out (a .sp) (a .h) (a .g) (a .w) (a .used) (a .row) (a .work .now)
     (c .before .before .before .before .before .before .before .before .before .before .before .before .before .before .pre .0 .up)
     (c .before .before .before .before .before .before .before .before .before .before .before .frac .ensures)
     (c .before .before .before .before .before .before .before .before .before .before .frac2 .ensures)
     (half-lent (a .work .now) (a .w) (c .before .before .before .before .before .before .before .before .before .half-of .ensures))
     (half-lent (a .work .now) (a .w) (c .before .before .before .before .before .before .before .half-of2 .ensures))
+    (c .before .before .blend-lanes .ensures)
 
 pub grow-row-spec : {M : Type 1} → statement M
 grow-row-spec =

@@ -2,7 +2,9 @@
 use lib.ListN.{length}
 use Prim.Native.Nat.{_*_}
 use borrow.Author.Tests.{not-true, not-false}
-use mathlib.Core.Path.{sym, _∙_}
+use mathlib.Core.Path.{_≡_, sym, _∙_}
+use mathlib.Core.Bool.{false}
+use Rattle.pixels.specs.Sizes.{badSize}
 use Rattle.pixels.proofs.Fitting.{size-of}
 use Rattle.pixels.specs.declared.Refusal.the-variants.{InvalidDimensions, OutputLength, WorkLength, NoneReady}
 use Rattle.rows.proofs.Scalings.{Passed, passed-room, passed-down, passed-up, scale-crop, scale-target, scale-length, scale-short, scale-early, scale-refused, scale-done, halves-stay}
@@ -10,12 +12,18 @@ use borrow.Author.Needs.{needs}
 use Rattle.rows.proofs.export.scale_row.Statement.{statement}
 use Rattle.rows.proofs.export.scale_row.Tie as tie
 
--- past the last test every fact of `Passed` is known
+-- what the tests on the way told
+crop-fits : (c : tie.Else1) → badSize (c .before .before .before .before .args .crop) ≡ false
+crop-fits c = sym (c .before .bad-size .ensures) ∙ c .if1 .left
+
+target-fits : (c : tie.Else2) → badSize (c .before .before .before .before .before .before .args .target) ≡ false
+target-fits c = sym (c .before .bad-size2 .ensures) ∙ c .if2 .left
+
 passed : (c : tie.Else5) → let a = c .before .before .before .before .before .before .before .before .before .before .before .args in Passed (a .crop) (a .target) (a .used) (a .row) (length (a .out .now)) (length (a .work .now))
 passed c =
     record {
-      crop-fits = sym (c .before .before .before .before .before .before .before .before .bad-size .ensures) ∙ c .before .before .before .before .before .before .before .if1 .left;
-      target-fits = sym (c .before .before .before .before .before .before .bad-size2 .ensures) ∙ c .before .before .before .before .before .if2 .left;
+      crop-fits = crop-fits (c .before .before .before .before .before .before .before);
+      target-fits = target-fits (c .before .before .before .before .before);
       out-exact = c .before .before .before .if3 .left;
       work-enough = c .before .before .if4 .left;
       ready = sym (c .before .due .ensures) ∙ not-false _ (c .if5 .left);
@@ -26,18 +34,18 @@ bad-size-requires c κs = search needs
 
 returns : tie.Need-returns
 returns c =
-    let a = (c .before .before .before .before .args) in scale-refused (a .crop) (a .target) (a .used) (a .row) (a .out .now) (a .work .now)
-    InvalidDimensions
-    (scale-crop (a .crop) (a .target) (a .used) (a .row) (length (a .out .now)) (length (a .work .now)) (sym (c .before .bad-size .ensures) ∙ (c .if1) .taken))
+    let a = c .before .before .before .before .args in
+    scale-refused (a .crop) (a .target) (a .used) (a .row) (a .out .now) (a .work .now) InvalidDimensions
+    (scale-crop (a .crop) (a .target) (a .used) (a .row) (length (a .out .now)) (length (a .work .now)) (sym (c .before .bad-size .ensures) ∙ c .if1 .taken))
 
 bad-size-requires-2 : tie.Need-bad-size-requires-2
 bad-size-requires-2 c κs = search needs
 
 returns-2 : tie.Need-returns-2
 returns-2 c =
-    let a = (c .before .before .before .before .before .before .args) in scale-refused (a .crop) (a .target) (a .used) (a .row) (a .out .now)
-    (a .work .now) InvalidDimensions
-    (scale-target (a .crop) (a .target) (a .used) (a .row) (length (a .out .now)) (length (a .work .now)) (sym (c .before .before .before .bad-size .ensures) ∙ (c .before .before .if1) .left) (sym (c .before .bad-size2 .ensures) ∙ (c .if2) .taken))
+    let a = c .before .before .before .before .before .before .args in
+    scale-refused (a .crop) (a .target) (a .used) (a .row) (a .out .now) (a .work .now) InvalidDimensions
+    (scale-target (a .crop) (a .target) (a .used) (a .row) (length (a .out .now)) (length (a .work .now)) (crop-fits (c .before .before)) (sym (c .before .bad-size2 .ensures) ∙ c .if2 .taken))
 
 cast-w : tie.Need-cast-w
 cast-w c = search needs
@@ -45,31 +53,29 @@ cast-w c = search needs
 mul-w : tie.Need-mul-w
 mul-w c = search needs
 
+mul-both : tie.Need-mul-both
+mul-both c = search needs
+
 returns-3 : tie.Need-returns-3
 returns-3 c =
-    let a = (c .before .before .before .before .before .before .before .before .args) in scale-refused (a .crop) (a .target) (a .used) (a .row)
-    (a .out .now) (a .work .now) OutputLength
-    (scale-length (a .crop) (a .target) (a .used) (a .row) (length (a .out .now)) (length (a .work .now)) (sym (c .before .before .before .before .before .bad-size .ensures) ∙ (c .before .before .before .before .if1) .left) (sym (c .before .before .before .bad-size2 .ensures) ∙ (c .before .before .if2) .left) (c .if3 .taken))
-
-mul-if4 : tie.Need-mul-if4
-mul-if4 c = search needs
+    let a = c .before .before .before .before .before .before .before .before .args in
+    scale-refused (a .crop) (a .target) (a .used) (a .row) (a .out .now) (a .work .now) OutputLength
+    (scale-length (a .crop) (a .target) (a .used) (a .row) (length (a .out .now)) (length (a .work .now)) (crop-fits (c .before .before .before .before)) (target-fits (c .before .before)) (c .if3 .taken))
 
 returns-4 : tie.Need-returns-4
 returns-4 c =
-    let a = (c .before .before .before .before .before .before .before .before .before .args) in scale-refused (a .crop) (a .target) (a .used)
-    (a .row) (a .out .now) (a .work .now) WorkLength
-    (scale-short (a .crop) (a .target) (a .used) (a .row) (length (a .out .now)) (length (a .work .now)) (sym (c .before .before .before .before .before .before .bad-size .ensures) ∙ (c .before .before .before .before .before .if1) .left) (sym (c .before .before .before .before .bad-size2 .ensures) ∙ (c .before .before .before .if2) .left) (c .before .if3 .left) (c .if4 .taken))
+    let a = c .before .before .before .before .before .before .before .before .before .args in
+    scale-refused (a .crop) (a .target) (a .used) (a .row) (a .out .now) (a .work .now) WorkLength
+    (scale-short (a .crop) (a .target) (a .used) (a .row) (length (a .out .now)) (length (a .work .now)) (crop-fits (c .before .before .before .before .before)) (target-fits (c .before .before .before)) (c .before .if3 .left) (c .if4 .taken))
 
 due-requires : tie.Need-due-requires
-due-requires c κs =
-    let b = c .before .before .before .before .before in
-    size-of (b .before .before .before .before .args .crop) (sym (b .before .bad-size .ensures) ∙ (b .if1) .left) .1 .some
+due-requires c κs = size-of (c .before .before .before .before .before .before .before .before .before .args .crop) (crop-fits (c .before .before .before .before .before)) .1 .some
 
 returns-5 : tie.Need-returns-5
 returns-5 c =
-    let a = (c .before .before .before .before .before .before .before .before .before .before .before .args) in scale-refused (a .crop)
-    (a .target) (a .used) (a .row) (a .out .now) (a .work .now) NoneReady
-    (scale-early (a .crop) (a .target) (a .used) (a .row) (length (a .out .now)) (length (a .work .now)) (sym (c .before .before .before .before .before .before .before .before .bad-size .ensures) ∙ (c .before .before .before .before .before .before .before .if1) .left) (sym (c .before .before .before .before .before .before .bad-size2 .ensures) ∙ (c .before .before .before .before .before .if2) .left) (c .before .before .before .if3 .left) (c .before .before .if4 .left) (sym (c .before .due .ensures) ∙ not-true _ (c .if5 .taken)))
+    let a = c .before .before .before .before .before .before .before .before .before .before .before .args in
+    scale-refused (a .crop) (a .target) (a .used) (a .row) (a .out .now) (a .work .now) NoneReady
+    (scale-early (a .crop) (a .target) (a .used) (a .row) (length (a .out .now)) (length (a .work .now)) (crop-fits (c .before .before .before .before .before .before .before)) (target-fits (c .before .before .before .before .before)) (c .before .before .before .if3 .left) (c .before .before .if4 .left) (sym (c .before .due .ensures) ∙ not-true _ (c .if5 .taken)))
 
 span-requires : tie.Need-span-requires
 span-requires c κs = search needs
@@ -119,8 +125,8 @@ scale-row-spec =
     returns-2
     cast-w
     mul-w
+    mul-both
     returns-3
-    mul-if4
     returns-4
     due-requires
     returns-5

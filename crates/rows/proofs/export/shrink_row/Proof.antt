@@ -1,7 +1,7 @@
 -- `shrink_row` meets its contract: d is in its range, so it fits; the loops' step and ratio are document 01's factors. Assumes nothing.
 use Rattle.rows.proofs.Factors.{step-of, ratio-most, shrink-out, shrink-work, take-out, take-work}
 use Rattle.rows.specs.Output.{ratio}
-use mathlib.Core.Path.{refl, _∙_}
+use mathlib.Core.Path.{refl}
 use Prim.Native.Nat.{suc, _*_, _-_}
 use native.Mathlib.Nat.{mul-le-mul-right}
 use native.Mathlib.Omega.{arith}
@@ -21,7 +21,9 @@ mul-d-2 : tie.Need-mul-d-2
 mul-d-2 c = omega (arith, row-most (c .before .before .fits .row .fits) (c .before .before .fits .h .fits))
 
 sub-d : tie.Need-sub-d
-sub-d c = let a = (c .before .before .args) in omega (arith, range-low (a .used * a .g) (suc (a .row) * a .h) (a .g) (c .before .before .pre .0 .due))
+sub-d c =
+    let a = c .before .before .args in
+    omega (arith, range-low (a .used * a .g) (suc (a .row) * a .h) (a .g) (c .before .before .pre .0 .due))
 
 cast-d : tie.Need-cast-d
 cast-d c =
@@ -59,8 +61,14 @@ same-length-2 c = search needs
 returns : tie.Need-returns
 unfolding ratio
 returns c =
-    let a = (c .before .before .before .before .before .before .before .before .before .before .before .before .args) in
-    (c .before .before .before .before .take-lanes .ensures .0 ∙ take-out (a .sp) (a .h) (a .g) (a .w) (a .used) (a .row) (a .work .now) (c .before .before .before .before .before .before .before .before .before .before .before .before .pre .0 .down) refl refl (c .before .before .before .before .before .before .before .if1 .taken), c .before .before .before .before .take-lanes .ensures .1 ∙ take-work (a .sp) (a .h) (a .g) (a .w) (a .used) (a .row) (a .work .now) (c .before .before .before .before .before .before .before .before .before .before .before .before .pre .0 .down) refl refl (c .before .before .before .before .before .before .before .if1 .taken))
+    let a = c .before .before .before .before .before .before .before .before .before .before .before .before .args in (
+      take-out (a .sp) (a .h) (a .g) (a .w) (a .used) (a .row) (a .work .now)
+          (c .before .before .before .before .before .before .before .before .before .before .before .before .pre .0 .down)
+          (c .before .before .before .before .before .before .before .if1 .taken) (c .before .before .before .before .take-lanes .ensures .0),
+      take-work (a .sp) (a .h) (a .g) (a .w) (a .used) (a .row) (a .work .now)
+          (c .before .before .before .before .before .before .before .before .before .before .before .before .pre .0 .down)
+          (c .before .before .before .before .before .before .before .if1 .taken) (c .before .before .before .before .take-lanes .ensures .1),
+    )
 
 cast-shrink-lanes : tie.Need-cast-shrink-lanes
 cast-shrink-lanes c = search needs
@@ -77,10 +85,15 @@ same-length-4 c = search needs
 returns-2 : tie.Need-returns-2
 unfolding ratio
 returns-2 c =
-    let a = (c .before .before .before .before .before .before .before .before .before .before .before .before .before .args) in let s = step-of
-    (a .h) (a .g) (a .used) (a .row) (c .before .before .before .before .before .before .before .before .before .before .frac .ensures)
-    (c .before .before .before .before .before .before .before .before .before .wrapping-mul .ensures) in
-    (c .before .before .before .before .shrink-lanes .ensures .0 ∙ shrink-out (a .sp) (a .h) (a .g) (a .w) (a .used) (a .row) (a .work .now) (c .before .before .before .before .before .before .before .before .before .before .before .before .before .pre .0 .down) refl s (c .before .before .before .before .before .before .before .before .if1 .left), c .before .before .before .before .shrink-lanes .ensures .1 ∙ shrink-work (a .sp) (a .h) (a .g) (a .w) (a .used) (a .row) (a .work .now) (c .before .before .before .before .before .before .before .before .before .before .before .before .before .pre .0 .down) refl s (c .before .before .before .before .before .before .before .before .if1 .left))
+    let a = c .before .before .before .before .before .before .before .before .before .before .before .before .before .args in
+    let s = step-of (a .h) (a .g) (a .used) (a .row) (c .before .before .before .before .before .before .before .before .before .before .frac .ensures) (c .before .before .before .before .before .before .before .before .before .wrapping-mul .ensures) in (
+      shrink-out (a .sp) (a .h) (a .g) (a .w) (a .used) (a .row) (a .work .now)
+          (c .before .before .before .before .before .before .before .before .before .before .before .before .before .pre .0 .down) refl s
+          (c .before .before .before .before .before .before .before .before .if1 .left) (c .before .before .before .before .shrink-lanes .ensures .0),
+      shrink-work (a .sp) (a .h) (a .g) (a .w) (a .used) (a .row) (a .work .now)
+          (c .before .before .before .before .before .before .before .before .before .before .before .before .before .pre .0 .down) refl s
+          (c .before .before .before .before .before .before .before .before .if1 .left) (c .before .before .before .before .shrink-lanes .ensures .1),
+    )
 
 cast-shrink-lanes-any : tie.Need-cast-shrink-lanes-any
 cast-shrink-lanes-any c =
@@ -99,10 +112,17 @@ same-length-6 c = search needs
 returns-3 : tie.Need-returns-3
 unfolding ratio
 returns-3 c =
-    let a = (c .before .before .before .before .before .before .before .before .before .before .before .before .before .args) in let s = step-of
-    (a .h) (a .g) (a .used) (a .row) (c .before .before .before .before .before .before .before .before .before .before .frac .ensures)
-    (c .before .before .before .before .before .before .before .before .before .wrapping-mul .ensures) in
-    (c .before .before .before .before .shrink-lanes-any .ensures .0 ∙ shrink-out (a .sp) (a .h) (a .g) (a .w) (a .used) (a .row) (a .work .now) (c .before .before .before .before .before .before .before .before .before .before .before .before .before .pre .0 .down) refl s (c .before .before .before .before .before .before .before .before .if1 .left), c .before .before .before .before .shrink-lanes-any .ensures .1 ∙ shrink-work (a .sp) (a .h) (a .g) (a .w) (a .used) (a .row) (a .work .now) (c .before .before .before .before .before .before .before .before .before .before .before .before .before .pre .0 .down) refl s (c .before .before .before .before .before .before .before .before .if1 .left))
+    let a = c .before .before .before .before .before .before .before .before .before .before .before .before .before .args in
+    let s = step-of (a .h) (a .g) (a .used) (a .row) (c .before .before .before .before .before .before .before .before .before .before .frac .ensures) (c .before .before .before .before .before .before .before .before .before .wrapping-mul .ensures) in (
+      shrink-out (a .sp) (a .h) (a .g) (a .w) (a .used) (a .row) (a .work .now)
+          (c .before .before .before .before .before .before .before .before .before .before .before .before .before .pre .0 .down) refl s
+          (c .before .before .before .before .before .before .before .before .if1 .left)
+          (c .before .before .before .before .shrink-lanes-any .ensures .0),
+      shrink-work (a .sp) (a .h) (a .g) (a .w) (a .used) (a .row) (a .work .now)
+          (c .before .before .before .before .before .before .before .before .before .before .before .before .before .pre .0 .down) refl s
+          (c .before .before .before .before .before .before .before .before .if1 .left)
+          (c .before .before .before .before .shrink-lanes-any .ensures .1),
+    )
 
 pub shrink-row-spec : {M : Type 1} → statement M
 shrink-row-spec =
