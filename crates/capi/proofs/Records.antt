@@ -8,7 +8,7 @@ use native.Mathlib.Omega.{arith}
 use lib.Dec.{leb, lit<}
 use lib.ListN.{length, getD, drop}
 use lib.Seq.{drop-cons}
-use borrow.Author.Tests.{leb-true, ltb-true, le-leb}
+use borrow.Author.Tests.{leb-true, ltb-true, le-leb, lt-leb, lt-ltb, le-ltb}
 use Rattle.pixels.specs.declared.PixelLayout.{PixelLayout}
 use Rattle.pixels.specs.declared.PixelLayout.the-variants.{Rgba8, Argb8, Bgra8}
 use Rattle.job.specs.declared.Job.{Job}
@@ -70,9 +70,24 @@ pub record Legal (words : List ℕ) : Type 0 where
 pub legal-of : (words : List ℕ) → wordsLegal words ≡ true → Legal words
 unfolding wordsLegal
 legal-of words e =
-    let a = both (leb recordLength (length words)) (isLayout (getD words 2 0) && isFlag (getD words 11 0)) e in
-    let b = both (isLayout (getD words 2 0)) (isFlag (getD words 11 0)) (a .1) in
-    record { enough = leb-true recordLength (length words) (a .0); layout = b .0; flag = b .1 }
+    let long = leb recordLength (length words) in
+    let layout = isLayout (getD words 2 0) in
+    let a = both (long && layout) (isFlag (getD words 11 0)) e in
+    let b = both long layout (a .0) in
+    record { enough = leb-true recordLength (length words) (b .0); layout = b .1; flag = a .1 }
+
+-- ---- the tests in their order
+pub too-short : (words : List ℕ) → length words < recordLength → false ≡ wordsLegal words
+unfolding wordsLegal
+too-short words h = simp (lt-leb recordLength (length words) h)
+
+pub no-layout : (words : List ℕ) → recordLength ≤ length words → 3 ≤ getD words 2 0 → false ≡ wordsLegal words
+unfolding wordsLegal
+no-layout words h k = simp (le-leb recordLength (length words) h, le-ltb (getD words 2 0) 3 k)
+
+pub flag-decides : (words : List ℕ) → recordLength ≤ length words → getD words 2 0 < 3 → isFlag (getD words 11 0) ≡ wordsLegal words
+unfolding wordsLegal
+flag-decides words h k = simp (le-leb recordLength (length words) h, lt-ltb (getD words 2 0) 3 k)
 
 twelve : (words : List ℕ) → recordLength ≤ length words → words ≡ getD words 0 0 ∷ getD words 1 0 ∷ getD words 2 0 ∷ getD words 3 0 ∷ getD words 4 0 ∷ getD words 5 0 ∷ getD words 6 0 ∷ getD words 7 0 ∷ getD words 8 0 ∷ getD words 9 0 ∷ getD words 10 0 ∷ getD words 11 0 ∷ drop 12 words
 twelve words h =

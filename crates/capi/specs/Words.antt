@@ -41,7 +41,7 @@ wordsPlan sw sh layout x y cw ch tw th = planOf (sizeOf sw sh) (wordLayout layou
 unfoldable pub wordsJob : List ℕ → Job
 wordsJob words = record {
   plan =
-    wordsPlan (getD words 0 0) (getD words 1 0) (getD words 2 0) (getD words 3 0) (getD words 4 0) (getD words 5 0) (getD words 6 0) (getD words 7 0) (getD words 8 0);
+      wordsPlan (getD words 0 0) (getD words 1 0) (getD words 2 0) (getD words 3 0) (getD words 4 0) (getD words 5 0) (getD words 6 0) (getD words 7 0) (getD words 8 0);
   accepted = getD words 9 0;
   taken = getD words 10 0;
   flag = wordFlag (getD words 11 0);

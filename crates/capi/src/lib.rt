@@ -1,8 +1,10 @@
 // The library for C (include/jonquilsaw.h): numbers and slices only. In C a slice is a pointer, then a count of elements. Every function answers for all
 // arguments: 0 where the call was accepted, document 01's number where it was refused, and BOUNDARY for what only this boundary can be asked, tested first.
 use job::Job;
+use job::Offered;
 use job::Plan;
 use job::Started;
+use job::Taken;
 use pixels::Dimensions;
 use pixels::Flagged;
 use pixels::PixelLayout;
@@ -17,7 +19,7 @@ ghost use Rattle.pixels.specs.Refusals.{number, bufferIf, flaggedNumber, flagge
 ghost use Rattle.pixels.specs.Sizes.{sizeOf, rectOf, scaledNumber, scaledSize};
 ghost use Rattle.pixels.specs.Picture.{hasAlpha, pictureNumber, cropped, cropNumber, withAlpha, alphaNumber};
 ghost use Rattle.job.specs.Record.{fresh};
-ghost use Rattle.job.specs.Calls.{startNumber, startWork};
+ghost use Rattle.job.specs.Calls.{startNumber, startWork, offerNumber, offerRows, offerJob, offerWork, takeNumber, takeJob, takeOut, takeWork};
 ghost use Rattle.capi.specs.Words.{recordLength, recordWords, wordsPlan, wordsJob, wordsLegal, recordFirst, storedJob};
 ghost use Rattle.capi.specs.Boundary.{boundaryFirst, misused, wordLayout, layoutWord, flagWord, stored, storedFlag, storedWord, storedSize};
 
@@ -153,10 +155,11 @@ fn store_job(job: Job, words: &mut [u32])
     ensures { λ _. ⌜ now (words .exit) ≡ storedJob job (now (words .entry)) ⌝ }
 {
     let plan = job.plan;
+    let layout = plan.layout;
     let answer = [
         plan.source.width,
         plan.source.height,
-        layout_word(plan.layout),
+        layout_word(layout),
         plan.crop.x,
         plan.crop.y,
         plan.crop.width,
@@ -229,6 +232,59 @@ pub extern "C" fn jonquilsaw_start(
     match answer {
         Started::Refused { why } => number_of(why),
         Started::Fresh { job } => {
+            store_job(job, record);
+            0
+        }
+    }
+}
+
+// Offers source rows to the job that the record's words tell; how many were accepted in one lent word.
+// Rules out: a count that is not stored; the record's words moved on by a refused call; a layout word of 3 read as some layout.
+#[no_mangle]
+pub extern "C" fn jonquilsaw_offer(
+    record: &mut [u32],
+    rows: &[u8],
+    work: &mut [u32],
+    count: &mut [u32],
+) -> u32
+    ensures number { λ r. ⌜ r ≡ boundaryFirst (ltb (length (now (count .entry))) 1) (recordFirst (now («record» .entry)) (offerNumber (wordsJob (now («record» .entry))) (length (now (rows .entry))) (length (now (work .entry))))) ⌝ }
+    ensures record { λ r. ⌜ now («record» .exit) ≡ bufferIf r (storedJob (offerJob (wordsJob (now («record» .entry))) (length (now (rows .entry))) (length (now (work .entry)))) (now («record» .entry))) (now («record» .entry)) ⌝ }
+    ensures work { λ r. ⌜ now (work .exit) ≡ bufferIf r (offerWork (wordsJob (now («record» .entry))) (now (rows .entry)) (now (work .entry))) (now (work .entry)) ⌝ }
+    ensures count { λ r. ⌜ now (count .exit) ≡ bufferIf r (storedWord (offerRows (wordsJob (now («record» .entry))) (length (now (rows .entry))) (length (now (work .entry)))) (now (count .entry))) (now (count .entry)) ⌝ }
+{
+    if count.len() < 1 {
+        return BOUNDARY;
+    }
+    if !legal(record) {
+        return number_of(Refusal::InvalidRecord);
+    }
+    let answer = read_job(record).offer(rows, work);
+    match answer {
+        Offered::Refused { why, job: _ } => number_of(why),
+        Offered::Accepted { rows: n, job } => {
+            store_job(job, record);
+            store(&[n], count);
+            0
+        }
+    }
+}
+
+// Takes the next preview row of the job that the record's words tell.
+// Rules out: a row written and the record's words left; a row written by a refused call.
+#[no_mangle]
+pub extern "C" fn jonquilsaw_take(record: &mut [u32], out: &mut [u8], work: &mut [u32]) -> u32
+    ensures number { λ r. ⌜ r ≡ recordFirst (now («record» .entry)) (takeNumber (wordsJob (now («record» .entry))) (length (now (out .entry))) (length (now (work .entry)))) ⌝ }
+    ensures record { λ r. ⌜ now («record» .exit) ≡ bufferIf r (storedJob (takeJob (wordsJob (now («record» .entry))) (length (now (out .entry))) (now (work .entry))) (now («record» .entry))) (now («record» .entry)) ⌝ }
+    ensures out { λ r. ⌜ now (out .exit) ≡ bufferIf r (takeOut (wordsJob (now («record» .entry))) (now (out .entry)) (now (work .entry))) (now (out .entry)) ⌝ }
+    ensures work { λ r. ⌜ now (work .exit) ≡ bufferIf r (takeWork (wordsJob (now («record» .entry))) (length (now (out .entry))) (now (work .entry))) (now (work .entry)) ⌝ }
+{
+    if !legal(record) {
+        return number_of(Refusal::InvalidRecord);
+    }
+    let answer = read_job(record).take(out, work);
+    match answer {
+        Taken::Refused { why, job: _ } => number_of(why),
+        Taken::Wrote { job } => {
             store_job(job, record);
             0
         }

@@ -114,7 +114,13 @@ fn row_in(p: Plan, row: &[u8], s: u32, work: &mut [u32])
     }
     let at = half_for(p, c);
     let part = window(row, p.crop.x, p.crop.width);
-    import_row(p.layout, p.crop.width, p.target.width, part, &mut work[at..]);
+    import_row(
+        p.layout,
+        p.crop.width,
+        p.target.width,
+        part,
+        &mut work[at..],
+    );
     if p.crop.height < p.target.height {
         return;
     }
