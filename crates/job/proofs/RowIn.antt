@@ -7,9 +7,10 @@ use mathlib.Core.Logic.{_⊎_, inl, inr}
 use mathlib.Core.List.{List, _++_, append-nil}
 use native.Mathlib.Omega.{arith}
 use lib.Dec.{eqb, leb}
-use lib.ListN.{length, take, drop, length-drop, drop-of-length-le}
+use lib.ListN.{length, take, drop, length-append, length-take, length-drop, drop-of-length-le}
 use lib.Seq.{take-all}
 use borrow.Author.Tests.{le-leb, lt-leb, lt-ltb, le-ltb, eq-eqb}
+use Rattle.arithmetic.proofs.Tables.{length-tabulate}
 use Rattle.pixels.specs.Refusals.{bufferIf}
 use Rattle.pixels.specs.Sizes.{rowBytes, halfValues, workValues, Fits}
 use Rattle.pixels.specs.Lanes.{matted}
@@ -29,10 +30,10 @@ module _ (xs : List ℕ) (a : ℕ) where
   short : length (drop a xs) ≤ length xs - a
   short = simp length-drop (omega arith)
 
-  pub lent : take (length xs - a) (drop a xs) ≡ drop a xs
+  lent : take (length xs - a) (drop a xs) ≡ drop a xs
   lent = take-all (length xs - a) (drop a xs) short
 
-  pub back : (ys : List ℕ) → take a xs ++ (ys ++ drop (length xs - a) (drop a xs)) ≡ take a xs ++ ys
+  back : (ys : List ℕ) → take a xs ++ (ys ++ drop (length xs - a) (drop a xs)) ≡ take a xs ++ ys
   back ys = rw (drop-of-length-le (drop a xs) short, append-nil)
 
 module _ (p : Plan) (row : List ℕ) (s : ℕ) (work : List ℕ) where
@@ -75,10 +76,17 @@ module _ (p : Plan) (row : List ℕ) (s : ℕ) (work : List ℕ) where
               (ap length part-is ∙ window-length row (p .crop .x) (p .crop .width) inside)
               (rw half-is (simp length-drop (omega (arith, at-low))))
 
-          pub half-written : next ≡ written (halfValues (p .target .width)) (valuesOf p row) (drop at work)
+          half-written : next ≡ written (halfValues (p .target .width)) (valuesOf p row) (drop at work)
           half-written =
               imported ∙ (let e : bufferIf (importNumber (p .crop .width) (p .target .width) (length part) (length half)) (written (halfValues (p .target .width)) (rowValue (matted (p .layout) part) (p .crop .width) (p .target .width)) half) half ≡ written (halfValues (p .target .width)) (rowValue (matted (p .layout) part) (p .crop .width) (p .target .width)) half = simp (eq-eqb _ 0 goes) in e)
               ∙ rw (part-is, half-is)
+
+        -- the work rows with that part put back
+        pub row-next : (part ys : List ℕ) → part ≡ windowOf row (p .crop .x) (p .crop .width)
+            → ys ≡ bufferIf (importNumber (p .crop .width) (p .target .width) (length part) (length (take (length work - at) (drop at work)))) (written (halfValues (p .target .width)) (rowValue (matted (p .layout) part) (p .crop .width) (p .target .width)) (take (length work - at) (drop at work))) (take (length work - at) (drop at work))
+            → take at work ++ (ys ++ drop (length work - at) (drop at work)) ≡ take at work ++ written (halfValues (p .target .width)) (valuesOf p row) (drop at work)
+        row-next part ys part-is imported =
+            back work at ys ∙ ap (λ (z : List ℕ). take at work ++ z) (half-written part (take (length work - at) (drop at work)) ys part-is (lent work at) imported)
 
         module _ (next : List ℕ) (next-is : next ≡ take at work ++ written (halfValues (p .target .width)) (valuesOf p row) (drop at work)) where
           -- the height grows: the other half is the older row
@@ -92,10 +100,11 @@ module _ (p : Plan) (row : List ℕ) (s : ℕ) (work : List ℕ) where
               by e (inr f) = let q : at ≡ 0 = rw (e, f) at at-is in rw q (simp (e, f))
 
           -- the height does not grow: the second half is added to the first
-          pub row-adds : p .target .height ≤ p .crop .height → length next ≡ length work → (last : List ℕ)
+          pub row-adds : p .target .height ≤ p .crop .height → (last : List ℕ)
               → last ≡ bufferIf (addNumber (p .target .width) (length next)) (added (halfValues (p .target .width)) next) next → last ≡ rowAccepted p row s work
           unfolding rowIn
-          row-adds l same last e =
+          row-adds l last e =
+              let same : length next ≡ length work = ap length next-is ∙ simp (length-append, length-take, length-tabulate, length-drop) (omega (arith, at-low)) in
               let f = le-leb (p .target .height) (p .crop .height) l in
               let q : at ≡ halfValues (p .target .width) = rw f at at-is in
               let z = add-passes (p .target .width) (length next) (side-good (p .target .width) (fits .target-width)) (omega arith) in

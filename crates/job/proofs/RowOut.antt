@@ -1,36 +1,32 @@
 -- An output row goes out of a take that passed its tests: the row is due (its d is in range), so the layer below refuses nothing, and the lanes that it
 -- makes, restored and packed, are the row of the definition. Assumes nothing.
-use Prim.Native.Nat.{ℕ, suc, _+_, _-_, _*_, _≤_, _<_}
-use mathlib.Core.Path.{_≡_, refl, sym, ap, _∙_}
-use mathlib.Core.Bool.{Bool, true, false}
-use mathlib.Core.Logic.{_⊎_, inl, inr}
+use Prim.Native.Nat.{ℕ}
+use mathlib.Core.Path.{_≡_, sym, ap, _∙_}
+use mathlib.Core.Bool.{Bool, true}
 use mathlib.Core.List.{List}
 use native.Mathlib.Omega.{arith}
 use lib.ListN.{length, getD}
-use borrow.Author.Tests.{le-leb, lt-ltb, eq-eqb}
+use borrow.Author.Tests.{eq-eqb}
 use Rattle.arithmetic.specs.Table.{tabulate}
 use Rattle.arithmetic.specs.Weight.{span}
-use Rattle.arithmetic.proofs.Orders.{le-or-lt}
 use Rattle.arithmetic.proofs.Tables.{length-tabulate, getD-tabulate, tabulate-cong}
 use Rattle.pixels.specs.declared.Dimensions.{Dimensions}
 use Rattle.pixels.specs.Sizes.{rowBytes, halfValues, sizeOf}
 use Rattle.pixels.specs.Picture.{hasAlpha}
 use Rattle.pixels.proofs.Fitting.{side-good, size-good}
 use Rattle.schedule.specs.Schedule.{needed}
-use Rattle.schedule.proofs.Needed.{needed-used, needed-some, down-low, down-high, up-low, up-high}
+use Rattle.schedule.proofs.Needed.{needed-used}
 use Rattle.rows.specs.WorkRows.{byteOut}
-use Rattle.rows.specs.Scaling.{within, due, scaleNumber, scaledOut, scaledWork}
+use Rattle.rows.specs.Scaling.{due, scaleNumber, scaledOut, scaledWork}
 use Rattle.rows.specs.Restoring.{restoreNumber, restoredRow, restoredOut, rowFlag}
-use Rattle.rows.proofs.Dues.{due-down, due-up}
+use Rattle.rows.proofs.Dues.{needed-due}
 use Rattle.rows.proofs.Scalings.{scale-passes}
+use Rattle.rows.proofs.Restorings.{restore-passes}
 use Rattle.job.specs.declared.Plan.{Plan}
 use Rattle.job.specs.declared.Job.{Job}
 use Rattle.job.specs.Calls.{usedBy, rowTaken, workTaken, takeNumber}
 use Rattle.job.proofs.Restoring.{restored-cong}
 use Rattle.job.proofs.Views.{TakeWent, take-went}
-
-in-range : (x from room : ℕ) → from ≤ x → x < from + room → within x from room ≡ true
-in-range x from room a b = simp (le-leb from x a, lt-ltb x (from + room) b)
 
 abbrev cropSize : Plan → Dimensions
 cropSize p = sizeOf (p .crop .width) (p .crop .height)
@@ -56,19 +52,9 @@ module _ (j : Job) (out work : List ℕ) (goes : takeNumber j (length out) (leng
       needed-used (j .plan .crop .y) h g (j .accepted) (j .taken) (w .rules .sizes .crop-height) (w .rules .sizes .target-height .some) (w .rules .low) (w .ready)
 
   row-due : due h g (usedBy j) (j .taken) ≡ true
-  row-due = by (le-or-lt g h)
-    where
-      by : (g ≤ h) ⊎ (h < g) → due h g (usedBy j) (j .taken) ≡ true
-      by (inl l) =
-          due-down h g (usedBy j) (j .taken) l
-          ∙ in-range (usedBy j * g) (suc (j .taken) * h) g
-          (rw (← used-is) (down-low h g (j .taken) (w .rules .sizes .target-height .some) l))
-          (rw (← used-is) (down-high h g (j .taken) (w .rules .sizes .target-height .some) l))
-      by (inr l) =
-          due-up h g (usedBy j) (j .taken) l (rw (← used-is) (needed-some h g (j .taken) (w .rules .sizes .crop-height) (w .rules .sizes .target-height .some)))
-          ∙ in-range ((usedBy j - 1) * (g - 1)) (j .taken * (h - 1)) (g - 1)
-          (rw (← used-is) (up-low h g (j .taken) (w .rules .sizes .crop-height) l))
-          (rw (← used-is) (up-high h g (j .taken) (w .rules .sizes .crop-height) l))
+  row-due =
+      ap (λ (u : ℕ). due h g u (j .taken)) (sym used-is)
+      ∙ needed-due h g (j .taken) (w .rules .sizes .crop-height) (w .rules .sizes .target-height .some)
 
   scale-goes : scaleNumber (cropSize (j .plan)) (j .plan .target) (usedBy j) (j .taken) (length out) (length work) ≡ 0
   scale-goes =
@@ -93,10 +79,9 @@ module _ (j : Job) (out work : List ℕ) (goes : takeNumber j (length out) (leng
     -- ---- restored and packed in place, and the flag
     module _ (row : List ℕ) (row-is : row ≡ scaledOut (cropSize (j .plan)) (j .plan .target) u (j .taken) out work) where
       restore-goes : restoreNumber (j .plan .target .width) (length row) ≡ 0
-      unfolding restoreNumber
       restore-goes =
-          let n : length row ≡ rowBytes (j .plan .target .width) = ap length (lanes-are row row-is) ∙ length-tabulate _ (halfValues (j .plan .target .width)) in
-          simp (side-good (j .plan .target .width) (w .rules .sizes .target-width), eq-eqb (length row) (rowBytes (j .plan .target .width)) n)
+          restore-passes (j .plan .target .width) (length row) (side-good (j .plan .target .width) (w .rules .sizes .target-width))
+          (ap length (lanes-are row row-is) ∙ length-tabulate (lanesOf j work) (halfValues (j .plan .target .width)))
 
       packed-is : restoredRow (j .plan .layout) (j .plan .target .width) row ≡ rowTaken j work
       unfolding restoredRow rowTaken

@@ -6,6 +6,14 @@ use pixels::PixelLayout;
 use pixels::Rect;
 use pixels::Refusal;
 use pixels::check_sizes;
+use pixels::window;
+use rows::Restored;
+use rows::add_halves;
+use rows::import_row;
+use rows::restore_row;
+use rows::scale_row;
+use schedule::rows_by;
+use schedule::used_rows;
 ghost use mathlib.Core.Path.{_≡_};
 ghost use mathlib.Core.Bool.{cond, _||_};
 ghost use mathlib.Core.List.{_++_};
@@ -114,13 +122,8 @@ fn row_in(p: Plan, row: &[u8], s: u32, work: &mut [u32])
     }
     let at = half_for(p, c);
     let part = window(row, p.crop.x, p.crop.width);
-    import_row(
-        p.layout,
-        p.crop.width,
-        p.target.width,
-        part,
-        &mut work[at..],
-    );
+    let layout = p.layout;
+    import_row(layout, p.crop.width, p.target.width, part, &mut work[at..]);
     if p.crop.height < p.target.height {
         return;
     }
@@ -350,7 +353,8 @@ impl Job {
             height: p.crop.height,
         };
         scale_row(crop, p.target, u, t, out, work);
-        let restored = restore_row(p.layout, p.target.width, out);
+        let layout = p.layout;
+        let restored = restore_row(layout, p.target.width, out);
         let flag = flag_after(self.flag, restored);
         self.taken = t + 1;
         self.flag = flag;
