@@ -1,8 +1,8 @@
 -- What each way out of start, offer and take gives, as the contracts state it. A refusal's number is not 0, so it keeps every buffer; where the call went
 -- through, the record that the library hands back is the one that is stored. Assumes nothing.
 use Prim.Native.Nat.{ℕ, _≤_}
-use mathlib.Core.Path.{_≡_, refl, sym, _∙_}
-use mathlib.Core.Bool.{Bool, true, false, not}
+use mathlib.Core.Path.{_≡_, sym, _∙_}
+use mathlib.Core.Bool.{Bool, true, false}
 use mathlib.Core.List.{List, [], _∷_}
 use native.Mathlib.Omega.{arith}
 use lib.Dec.{eqb, ltb}
@@ -23,8 +23,8 @@ use Rattle.job.specs.declared.Taken.the-variants as taken
 use Rattle.job.specs.Answers.{startedNumber, startedJob, offeredNumber, offeredRows, offeredJob, takenNumber, takenJob}
 use Rattle.job.specs.Record.{fresh}
 use Rattle.job.specs.Calls.{startNumber, startWork, offerNumber, offerRows, offerJob, offerWork, takeNumber, takeJob, takeOut, takeWork}
-use Rattle.capi.specs.Boundary.{boundaryFirst, layoutWord, wordFlag, flagWord, stored, storedWord}
-use Rattle.capi.specs.Words.{recordLength, recordWords, wordsPlan, wordsJob, wordsLegal, recordFirst, storedJob}
+use Rattle.capi.specs.Boundary.{boundaryFirst, layoutWord, flagWord, stored, storedWord}
+use Rattle.capi.specs.Words.{recordLength, recordWords, wordsJob, wordsLegal, recordFirst, storedJob}
 use Rattle.capi.proofs.Answers.{kept-by}
 use Rattle.capi.proofs.Records.{legal-of}
 

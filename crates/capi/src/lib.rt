@@ -20,7 +20,7 @@ ghost use Rattle.pixels.specs.Sizes.{sizeOf, rectOf, scaledNumber, scaledSize};
 ghost use Rattle.pixels.specs.Picture.{hasAlpha, pictureNumber, cropped, cropNumber, withAlpha, alphaNumber};
 ghost use Rattle.job.specs.Record.{fresh};
 ghost use Rattle.job.specs.Calls.{startNumber, startWork, offerNumber, offerRows, offerJob, offerWork, takeNumber, takeJob, takeOut, takeWork};
-ghost use Rattle.capi.specs.Words.{recordLength, recordWords, wordsPlan, wordsJob, wordsLegal, recordFirst, storedJob};
+ghost use Rattle.capi.specs.Words.{recordLength, wordsPlan, wordsJob, wordsLegal, recordFirst, storedJob};
 ghost use Rattle.capi.specs.Boundary.{boundaryFirst, misused, wordLayout, layoutWord, flagWord, stored, storedFlag, storedWord, storedSize};
 
 // Above every number of documents 01 and 02: a layout argument that is none, or an answer slice that is too short.
