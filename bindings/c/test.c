@@ -160,7 +160,7 @@ static void starts(void) {
     EXPECT(words_all(work, 16, 0) && words_all(work + 16, 4, 5));
 }
 
-/* The refusals of offer and take in their order, of a 2 by 6 picture to 1 by 4 in three of its rows' lengths. */
+/* The refusals of offer and take in their order, and what they move on, of a 2 by 6 picture of bytes 100 to 1 by 4. */
 static void offers_and_takes(void) {
     uint8_t *rows = bytes_of(48, 100), *out = bytes_of(4, 9), *kept_rows = bytes_of(48, 100);
     uint32_t *work = words_of(10, 3), *record = words_of(13, 4), *count = words_of(2, 8);
@@ -202,7 +202,7 @@ static void offers_and_takes(void) {
     EXPECT(jonquilsaw_offer(record, 13, rows, 8, work, 7, count, 1) == JONQUILSAW_WORK_LENGTH && KEPT);
     EXPECT(jonquilsaw_offer(record, 13, rows, 8, work, 10, count, 1) == JONQUILSAW_ROW_READY && KEPT);
     EXPECT(jonquilsaw_take(record, 13, out, 4, work, 10) == 0);
-    EXPECT(all(out, 4, 100) || (out[3] == 100 && out[0] == out[1]));
+    EXPECT(out[0] == 99 && out[1] == 99 && out[2] == 99 && out[3] == 100);
     EXPECT(record[10] == 1 && record[11] == 1 && record[12] == 4 && work[8] == 3 && work[9] == 3);
 #undef KEPT
 }
