@@ -257,7 +257,7 @@ static void pictures(void) {
         EXPECT(jonquilsaw_resize(0, 3, 3, 2, 2, pixels, 0, out, 0, work, 0, flag, 1) == JONQUILSAW_BOUNDARY);
         EXPECT(jonquilsaw_resize(0, 3, layout, 2, 2, pixels, 0, out, 0, work, 0, flag, 0) == JONQUILSAW_BOUNDARY);
         EXPECT(jonquilsaw_resize(3, 3, layout, 2, 16385, pixels, 0, out, 0, work, 0, flag, 1) == JONQUILSAW_INVALID_DIMENSIONS);
-        EXPECT(jonquilsaw_resize(3, 3, layout, 2, 2, pixels, 40, out, 0, work, 0, flag, 1) == JONQUILSAW_PIXEL_BUFFER_MISMATCH);
+        EXPECT(jonquilsaw_resize(3, 3, layout, 2, 2, pixels, 32, out, 0, work, 0, flag, 1) == JONQUILSAW_PIXEL_BUFFER_MISMATCH);
         EXPECT(jonquilsaw_resize(3, 3, layout, 2, 2, pixels, 36, out, 12, work, 0, flag, 1) == JONQUILSAW_OUTPUT_LENGTH);
         EXPECT(jonquilsaw_resize(3, 3, layout, 2, 2, pixels, 36, out, 16, work, 15, flag, 1) == JONQUILSAW_WORK_LENGTH);
         EXPECT(words_all(flag, 2, 7) && all(out, 16, 9) && words_all(work, 16, 5));
