@@ -43,12 +43,12 @@ module _ (rows : List ℕ) (w n i : ℕ) (here : rowBytes w * n ≤ length rows)
 
 -- ---- one source row
 module _ (p : Plan) (fits : Fits (p .source) (p .crop) (p .target)) where
-  row-in : (row : List ℕ) (s : ℕ) (work : List ℕ) → p .crop .y ≤ s → s < p .crop .y + p .crop .height
+  pub row-in : (row : List ℕ) (s : ℕ) (work : List ℕ) → p .crop .y ≤ s → s < p .crop .y + p .crop .height
       → rowAccepted p row s work ≡ rowIn (p .crop .height) (p .target .height) (halfValues (p .target .width)) (s - p .crop .y) (valuesOf p row) work
   unfolding rowAccepted
   row-in row s work a b = simp (le-leb (p .crop .y) s a, lt-ltb s (p .crop .y + p .crop .height) b)
 
-  row-beside : (row : List ℕ) (s : ℕ) (work : List ℕ) → (s < p .crop .y) ⊎ (p .crop .y + p .crop .height ≤ s) → rowAccepted p row s work ≡ work
+  pub row-beside : (row : List ℕ) (s : ℕ) (work : List ℕ) → (s < p .crop .y) ⊎ (p .crop .y + p .crop .height ≤ s) → rowAccepted p row s work ≡ work
   unfolding rowAccepted
   row-beside row s work (inl a) = simp (lt-leb (p .crop .y) s a)
   row-beside row s work (inr a) = simp (le-leb (p .crop .y) s (omega arith), le-ltb s (p .crop .y + p .crop .height) a)

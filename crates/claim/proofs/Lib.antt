@@ -6,3 +6,4 @@ pub mod Invariant
 pub mod Theorem
 pub mod Reaching
 pub mod Whole
+pub mod Trials

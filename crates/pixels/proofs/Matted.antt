@@ -1,17 +1,17 @@
 -- What the scaler reads of a row of bytes: each lane of the matted pixel is a colour scaled by its alpha or the alpha itself, never above 255 nor above
 -- the alpha. What is packed again: the lanes of the restored pixel. Assumes nothing.
-use Prim.Native.Nat.{ℕ, _+_, _*_, _/_, _%_, _≤_, _<_}
-use mathlib.Core.Path.{_≡_, sym, ap, ap₂, _∙_}
+use Prim.Native.Nat.{ℕ, _+_, _*_, _≤_, _<_}
+use mathlib.Core.Path.{_≡_, ap₂, _∙_}
 use mathlib.Core.List.{List}
 use mathlib.Core.Logic.{⊎-elim}
 use native.Mathlib.Omega.{arith}
 use native.Mathlib.Nat.{le-of-suc-le-suc, eq-or-lt-of-le, le-refl}
 use lib.ListN.{getD}
-use Rattle.arithmetic.specs.Matte.{laneOf, pixelOf, scaleColour, matteFactor, multArgb}
+use Rattle.arithmetic.specs.Matte.{laneOf, scaleColour, matteFactor}
 use Rattle.arithmetic.proofs.Mattes.{lane-byte, matte-colour, matte-alpha, matte-within}
 use Rattle.pixels.specs.declared.PixelLayout.{PixelLayout}
 use Rattle.pixels.specs.Sizes.{lanes}
-use Rattle.pixels.specs.Layout.{placeOf, alphaLane, laneAt, alphaAt, pixelAt, packedByte}
+use Rattle.pixels.specs.Layout.{placeOf, alphaLane, laneAt, alphaAt, pixelAt}
 use Rattle.pixels.specs.Lanes.{matted, restoredPixel, restoredPlace}
 use Rattle.pixels.proofs.Packing.{pixelAt-lane, packed-byte}
 

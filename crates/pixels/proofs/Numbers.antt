@@ -1,11 +1,11 @@
 -- Laws of the numbers of "Why a call is turned away": a number names its cause, none is 0, and the first of two is the first that applies. Assumes nothing.
-use Prim.Native.Nat.{ℕ, _<_}
+use Prim.Native.Nat.{ℕ, zero, suc, _<_}
 use mathlib.Core.Path.{_≡_, refl, sym, ap, _∙_}
 use mathlib.Core.Bool.{Bool, true, false, not}
 use mathlib.Core.List.{List, [], _∷_}
 use native.Mathlib.Omega.{arith}
 use lib.Dec.{eqb, lit<}
-use borrow.Author.Tests.{eq-eqb, ne-eqb}
+use borrow.Author.Tests.{eq-eqb, ne-eqb, eqb-true}
 use lib.ListN.{getD}
 use Rattle.pixels.specs.declared.Dimensions.{Dimensions}
 use Rattle.pixels.specs.declared.Refusal.{Refusal}
@@ -100,9 +100,22 @@ first-why why a b e = rw e (first-number why b)
 pub first-next : (a b : ℕ) → a ≡ 0 → firstOf a b ≡ b
 first-next a b e = simp e
 
+pub first-none : (a b : ℕ) → firstOf a b ≡ 0 → (a ≡ 0) × (b ≡ 0)
+first-none zero b e = (refl, e)
+first-none (suc a) b e =
+    let f : firstOf (suc a) b ≡ suc a = simp (ne-eqb (suc a) 0 (λ z. omega arith)) in
+    absurd (omega arith)
+
 -- a length that is not the one asked for
 pub length-refused : (why : Refusal) (n m : ℕ) → (n ≡ m → ⊥) → refusedIf (not (eqb n m)) why ≡ number why
 length-refused why n m h = simp (ne-eqb n m h)
 
 pub length-passes : (why : Refusal) (n m : ℕ) → n ≡ m → refusedIf (not (eqb n m)) why ≡ 0
 length-passes why n m h = simp (eq-eqb n m h)
+
+pub length-same : (why : Refusal) (n m : ℕ) → refusedIf (not (eqb n m)) why ≡ 0 → n ≡ m
+length-same why n m e = eqb-true n m (go (eqb n m) e)
+  where
+    go : (b : Bool) → refusedIf (not b) why ≡ 0 → b ≡ true
+    go true e = refl
+    go false e = absurd (omega (arith, number-pos why))

@@ -1,7 +1,7 @@
 -- Packing and unpacking undo each other, for a pixel and for slices of any length: a place holds the lane that the table says, and the table is its own
 -- inverse. Then the steps of the loops that pack and unpack. Assumes nothing.
-use Prim.Native.Nat.{ℕ, zero, suc, _+_, _*_, _/_, _%_, _^_, _≤_, _<_}
-use mathlib.Core.Path.{_≡_, refl, sym, ap, ap₂, _∙_}
+use Prim.Native.Nat.{ℕ, _+_, _*_, _/_, _%_, _^_, _≤_, _<_}
+use mathlib.Core.Path.{_≡_, sym, ap, _∙_}
 use mathlib.Core.List.{List, [], _∷_, _++_}
 use native.Mathlib.Omega.{arith}
 use native.Mathlib.Nat.{add-zero}
@@ -9,7 +9,7 @@ use lib.ListN.{length, getD, take, drop}
 use Rattle.arithmetic.specs.Matte.{laneOf, pixelOf}
 use Rattle.arithmetic.proofs.Mattes.{lanes-make, pixel-lane, pixel-cong}
 use Rattle.arithmetic.specs.Table.{tabulate}
-use Rattle.arithmetic.proofs.Tables.{length-tabulate, getD-tabulate, tabulate-cong, tabulate-is, take-table, drop-table}
+use Rattle.arithmetic.proofs.Tables.{length-tabulate, getD-tabulate, tabulate-cong, tabulate-is}
 use Rattle.pixels.specs.declared.PixelLayout.{PixelLayout}
 use Rattle.pixels.specs.declared.PixelLayout.the-variants.{Rgba8, Argb8, Bgra8}
 use Rattle.pixels.specs.declared.Refusal.the-variants.{OutputLength}
@@ -18,7 +18,7 @@ use Rattle.pixels.specs.Sizes.{lanes}
 use Rattle.pixels.specs.Layout.{placeOf, laneAt, pixelAt, unpacked, packed, unpackedPixels, packedByte, packedPixels, packNumber, unpackNumber}
 use Rattle.pixels.proofs.Numbers.{length-refused, length-passes}
 use Rattle.pixels.proofs.Stretches.{stretch, tabulate-add}
-use Rattle.pixels.proofs.Tabled.{each-lane, place-lt, place-twice}
+use Rattle.pixels.proofs.Tabled.{place-lt, place-twice}
 
 -- what four bytes unpack to, the lanes read where the table says
 pub unpack-from : (l : PixelLayout) (s : List ℕ) (b g r a : ℕ) {n : ℕ} → b ≡ placeOf l 0 → g ≡ placeOf l 1 → r ≡ placeOf l 2 → a ≡ placeOf l 3 → n ≡ getD s b 0 + 2 ^ 8 * getD s g 0 + 2 ^ 16 * getD s r 0 + 2 ^ 24 * getD s a 0 → n ≡ unpacked l s
@@ -26,6 +26,11 @@ unfolding unpacked pixelAt pixelOf
 unpack-from Rgba8 s b g r a pb pg pr pa e = rw (pb, pg, pr, pa) at e
 unpack-from Argb8 s b g r a pb pg pr pa e = rw (pb, pg, pr, pa) at e
 unpack-from Bgra8 s b g r a pb pg pr pa e = rw (pb, pg, pr, pa) at e
+
+-- what a pixel packs to, each byte the lane that the table has at its place
+pub pack-from : (l : PixelLayout) (n : ℕ) {p q r s b c d e : ℕ} → p ≡ placeOf l 0 → q ≡ placeOf l 1 → r ≡ placeOf l 2 → s ≡ placeOf l 3 → b ≡ laneOf n p → c ≡ laneOf n q → d ≡ laneOf n r → e ≡ laneOf n s → (b ∷ c ∷ d ∷ e ∷ []) ≡ packed l n
+unfolding packed tabulate
+pack-from l n p q r s b c d e = cc
 
 -- four bytes of a row, in their order, are a pixel of it
 pub unpacked-at : (l : PixelLayout) (s : List ℕ) (i : ℕ) → unpacked l (getD s (4 * i) 0 ∷ getD s (4 * i + 1) 0 ∷ getD s (4 * i + 2) 0 ∷ getD s (4 * i + 3) 0 ∷ []) ≡ pixelAt l s i

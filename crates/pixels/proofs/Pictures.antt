@@ -1,17 +1,16 @@
 -- The numbers of the functions over whole pictures, for the first test that fails and where all pass. Assumes nothing.
-use Prim.Native.Nat.{ℕ, _+_, _*_, _≤_, _<_}
+use Prim.Native.Nat.{ℕ, _*_, _≤_}
 use mathlib.Core.Path.{_≡_, _∙_}
 use mathlib.Core.Bool.{true, false}
-use native.Mathlib.Omega.{arith}
 use native.Mathlib.Nat.{mul-le-mul}
 use Rattle.pixels.specs.declared.Dimensions.{Dimensions}
 use Rattle.pixels.specs.declared.Rect.{Rect}
 use Rattle.pixels.specs.declared.Refusal.{Refusal}
 use Rattle.pixels.specs.declared.Refusal.the-variants.{InvalidDimensions, PixelBufferMismatch, OutputLength}
 use Rattle.pixels.specs.Refusals.{number}
-use Rattle.pixels.specs.Sizes.{maxSide, badSize, pictureBytes, sizesNumber}
+use Rattle.pixels.specs.Sizes.{maxSide, badSize, pictureBytes, sizeNumber, sizesNumber}
 use Rattle.pixels.specs.Picture.{pictureNumber, cropNumber, alphaNumber}
-use Rattle.pixels.proofs.Numbers.{first-why, first-next, length-refused, length-passes}
+use Rattle.pixels.proofs.Numbers.{first-why, first-next, first-none, length-refused, length-passes, length-same}
 use Rattle.pixels.proofs.Fitting.{size-bad, size-passes}
 
 -- a picture of two sides that pass has few enough bytes
@@ -30,6 +29,11 @@ module _ (size : Dimensions) (n : ℕ) where
   pub picture-passes : badSize size ≡ false → n ≡ pictureBytes (size .width) (size .height) → pictureNumber size n ≡ 0
   unfolding pictureNumber
   picture-passes e h = first-next _ _ (size-passes size e) ∙ length-passes PixelBufferMismatch _ _ h
+
+  -- a picture that passes has its length, and sides that pass
+  pub picture-long : pictureNumber size n ≡ 0 → n ≡ pictureBytes (size .width) (size .height)
+  unfolding pictureNumber
+  picture-long e = length-same PixelBufferMismatch _ _ (first-none (sizeNumber size) _ e .1)
 
   pub alpha-refused : (why : Refusal) (m : ℕ) → pictureNumber size n ≡ number why → alphaNumber size n m ≡ number why
   unfolding alphaNumber

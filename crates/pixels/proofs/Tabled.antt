@@ -1,12 +1,13 @@
 -- The table of lane orders: its places lie within a pixel, and each row is its own inverse, so pack and unpack can both read it. Assumes nothing.
-use Prim.Native.Nat.{ℕ, zero, suc, _+_, _*_, _/_, _%_, _^_, _<_}
-use mathlib.Core.Path.{_≡_, refl, ap}
+use Prim.Native.Nat.{ℕ, zero, suc, _<_}
+use mathlib.Core.Path.{_≡_, refl}
 use native.Mathlib.Omega.{arith}
 use lib.Dec.{lit<}
 use Rattle.pixels.specs.declared.PixelLayout.{PixelLayout}
 use Rattle.pixels.specs.declared.PixelLayout.the-variants.{Rgba8, Argb8, Bgra8}
+use Rattle.pixels.specs.declared.Places.{Places}
 use Rattle.pixels.specs.Sizes.{lanes}
-use Rattle.pixels.specs.Layout.{rowOf, placeOf}
+use Rattle.pixels.specs.Layout.{rowOf, placeOf, placesOf}
 
 -- what holds of each lane holds of every lane
 pub each-lane : (P : ℕ → Type 0) → P 0 → P 1 → P 2 → P 3 → (k : ℕ) → k < lanes → P k
@@ -31,3 +32,6 @@ pub place-twice : (l : PixelLayout) (k : ℕ) → k < lanes → placeOf l (place
 place-twice Rgba8 = each-lane (λ k. placeOf Rgba8 (placeOf Rgba8 k) ≡ k) refl refl refl refl
 place-twice Argb8 = each-lane (λ k. placeOf Argb8 (placeOf Argb8 k) ≡ k) refl refl refl refl
 place-twice Bgra8 = each-lane (λ k. placeOf Bgra8 (placeOf Bgra8 k) ≡ k) refl refl refl refl
+
+pub places-from : (l : PixelLayout) {b g r a : ℕ} → b ≡ placeOf l 0 → g ≡ placeOf l 1 → r ≡ placeOf l 2 → a ≡ placeOf l 3 → _≡_ {A = Places} (record { b = b; g = g; r = r; a = a }) (placesOf l)
+places-from l pb pg pr pa = cc

@@ -1,7 +1,7 @@
 -- The window of a row: where it lies in the row it has its length and its bytes; outside it is empty. And the rows of a crop, joined. Assumes nothing.
 use Prim.Native.Nat.{ℕ, zero, suc, _+_, _*_, _-_, _≤_, _<_}
-use mathlib.Core.Path.{_≡_, refl, sym, ap, ap₂, _∙_}
-use mathlib.Core.List.{List, [], _∷_, _++_, append-nil}
+use mathlib.Core.Path.{_≡_, sym, ap, ap₂, _∙_}
+use mathlib.Core.List.{List, [], _++_, append-nil}
 use native.Mathlib.Omega.{arith}
 use native.Mathlib.Numerals.{add-one}
 use native.Mathlib.Nat.{add-sub-cancel-left, mul-le-mul-left, mul-zero}
@@ -10,7 +10,7 @@ use lib.Seq.{length-take-le, getD-take, getD-drop}
 use borrow.Author.Tests.{le-leb, lt-leb}
 use Rattle.pixels.specs.declared.Dimensions.{Dimensions}
 use Rattle.pixels.specs.declared.Rect.{Rect}
-use Rattle.pixels.specs.Sizes.{lanes, rowBytes, pictureBytes, Fits}
+use Rattle.pixels.specs.Sizes.{rowBytes, pictureBytes, Fits}
 use Rattle.pixels.specs.Picture.{windowOf, pictureRow, croppedRows, cropped}
 use Rattle.pixels.proofs.Stretches.{stretch}
 

@@ -1,6 +1,6 @@
 -- Whole pictures (document 01, "Lanes" and "Beside the job"): the alpha flag, the crop window of a row, crop and apply_alpha_plane. Assumes nothing.
 use Prim.Native.Nat.{ℕ, zero, suc, _+_, _*_, _/_, _%_}
-use mathlib.Core.Bool.{Bool, true, false, cond, not, _||_}
+use mathlib.Core.Bool.{Bool, false, cond, not, _||_}
 use mathlib.Core.List.{List, [], _++_}
 use lib.Dec.{eqb, leb}
 use lib.ListN.{length, getD, take, drop}

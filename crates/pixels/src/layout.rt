@@ -29,7 +29,8 @@ fn row(layout: PixelLayout) -> usize
 
 fn place(layout: PixelLayout, k: usize) -> usize
     requires { ⌜ k < lanes ⌝ }
-    ensures { λ r. ⌜ r ≡ placeOf layout k ⌝ }
+    ensures is { λ r. ⌜ r ≡ placeOf layout k ⌝ }
+    ensures within { λ r. ⌜ r < lanes ⌝ }
 {
     let i = row(layout);
     LANES[i][k]

@@ -11,7 +11,7 @@ ghost use mathlib.Core.Path.{_≡_};
 ghost use mathlib.Core.List.{_++_};
 ghost use Prim.Native.Nat.{_+_, _*_, _/_, _≤_};
 ghost use lib.ListN.{length, take, drop};
-ghost use Rattle.pixels.specs.Refusals.{flaggedNumber, flaggedFlag, flagIf, bufferIf};
+ghost use Rattle.pixels.specs.Refusals.{checkedNumber, flaggedNumber, flaggedFlag, flagIf, bufferIf};
 ghost use Rattle.pixels.specs.Sizes.{lanes, pictureBytes, Fits};
 ghost use Rattle.pixels.specs.Picture.{hasAlpha, pictureNumber, windowOf, pictureRow, cropped, cropNumber, withAlpha, alphaNumber};
 
@@ -32,18 +32,33 @@ pub fn has_alpha(layout: PixelLayout, bytes: &[u8]) -> bool
     false
 }
 
-// The flag of a picture, as the Rust's Image::new derives it. Rules out: 3 told before 1; a flag kept false for an opaque layout.
+// Numbers 1 and 3, in that order, of a picture of the size in n bytes.
+fn check_picture(size: Dimensions, n: usize) -> Checked
+    ensures { λ r. ⌜ checkedNumber r ≡ pictureNumber size n ⌝ }
+{
+    if bad_size(size) {
+        return Checked::Refused(Refusal::InvalidDimensions);
+    }
+    if n as u64 != 4 * size.pixel_count() {
+        return Checked::Refused(Refusal::PixelBufferMismatch);
+    }
+    Checked::Fit
+}
+
+// The flag of a picture, as the Rust's Image::new derives it. Rules out: 3 told before 1; the flag turned round.
 pub fn picture_has_alpha(size: Dimensions, layout: PixelLayout, pixels: &[u8]) -> Flagged
     ensures number { λ r. ⌜ flaggedNumber r ≡ pictureNumber size (length (now (pixels .entry))) ⌝ }
     ensures flag { λ r. ⌜ flaggedFlag r ≡ flagIf (pictureNumber size (length (now (pixels .entry)))) (hasAlpha layout (now (pixels .entry)) (size .width * size .height)) ⌝ }
 {
-    if bad_size(size) {
-        return Flagged::Refused(Refusal::InvalidDimensions);
+    let checked = check_picture(size, pixels.len());
+    match checked {
+        Checked::Refused(why) => {
+            return Flagged::Refused(why);
+        }
+        Checked::Fit => {}
     }
-    if pixels.len() as u64 != 4 * size.pixel_count() {
-        return Flagged::Refused(Refusal::PixelBufferMismatch);
-    }
-    Flagged::Flag(has_alpha(layout, pixels))
+    let flag = has_alpha(layout, pixels);
+    Flagged::Flag(flag)
 }
 
 // The crop window of a row: width pixels from pixel x on, a part of that same row; the empty part where they do not lie in it.
@@ -124,11 +139,11 @@ fn put_alpha(layout: PixelLayout, pixels: &mut [u8], plane: &[u8])
     requires { ⌜ length (now pixels) ≡ lanes * length (now plane) ⌝ }
     ensures { λ _. ⌜ now (pixels .exit) ≡ withAlpha layout (now (pixels .entry)) (now (plane .entry)) ⌝ }
 {
-    let a = layout.alpha_byte_offset();
+    let alpha = layout.alpha_byte_offset();
     let mut i = 0;
     while i < plane.len() {
-        let at = 4 * i + a;
-        pixels[at] = plane[i];
+        let to = 4 * i + alpha;
+        pixels[to] = plane[i];
         i += 1;
     }
 }
@@ -145,11 +160,12 @@ pub fn apply_alpha_plane(
     ensures flag { λ r. ⌜ flaggedFlag r ≡ flagIf (alphaNumber size (length (now (pixels .entry))) (length (now (plane .entry)))) (hasAlpha layout (withAlpha layout (now (pixels .entry)) (now (plane .entry))) (size .width * size .height)) ⌝ }
     ensures pixels { λ _. ⌜ now (pixels .exit) ≡ bufferIf (alphaNumber size (length (now (pixels .entry))) (length (now (plane .entry)))) (withAlpha layout (now (pixels .entry)) (now (plane .entry))) (now (pixels .entry)) ⌝ }
 {
-    if bad_size(size) {
-        return Flagged::Refused(Refusal::InvalidDimensions);
-    }
-    if pixels.len() as u64 != 4 * size.pixel_count() {
-        return Flagged::Refused(Refusal::PixelBufferMismatch);
+    let checked = check_picture(size, pixels.len());
+    match checked {
+        Checked::Refused(why) => {
+            return Flagged::Refused(why);
+        }
+        Checked::Fit => {}
     }
     if plane.len() as u64 != size.pixel_count() {
         return Flagged::Refused(Refusal::PixelBufferMismatch);

@@ -78,7 +78,7 @@ impl Dimensions {
         Sized::Size(size)
     }
 
-    // The Rust's pixel_count. Rules out: a product that wraps at 32 bits; a sum.
+    // The Rust's pixel_count. Rules out: a product that wraps at 32 bits; half the pixels.
     pub fn pixel_count(self) -> u64
         ensures { λ r. ⌜ r ≡ self .width * self .height ⌝ }
     {
@@ -86,7 +86,7 @@ impl Dimensions {
     }
 
     // The Rust's scaled, libwebp's WebPRescalerGetScaledDimensions: an axis of 0 is derived from the other.
-    // Rules out: a derived side rounded down; the height derived first; a side above the limit cut off to it.
+    // Rules out: a derived side rounded down; the ratio upside down; a side above the limit cut off to it.
     pub fn scaled(self, width: u32, height: u32) -> Sized
         ensures number { λ r. ⌜ sizedNumber r ≡ scaledNumber self width height ⌝ }
         ensures size { λ r. ⌜ sizedSize r ≡ sizeIf (scaledNumber self width height) (scaledSize self width height) ⌝ }
@@ -115,10 +115,10 @@ impl Rect {
         ensures { λ r. ⌜ r ≡ rectOf x y width height ⌝ }
     {
         Rect {
-            x,
-            y,
-            width,
-            height,
+            x: x,
+            y: y,
+            width: width,
+            height: height,
         }
     }
 }

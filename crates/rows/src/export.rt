@@ -10,21 +10,20 @@ use pixels::Refusal;
 use pixels::Sized;
 use std::num::wrapping_sub_u32;
 ghost use mathlib.Core.Path.{_≡_};
-ghost use Prim.Native.Nat.{ℕ, _+_, _-_, _*_, _%_, _^_, _≤_, _<_, min};
 ghost use mathlib.Core.List.{_++_};
-ghost use lib.ListN.{length, getD, drop};
+ghost use Prim.Native.Nat.{_+_, _^_, _≤_, _<_};
+ghost use lib.Dec.{T};
+ghost use lib.ListN.{length, drop};
 ghost use lib.Signed.{nonNeg};
 ghost use lib.IntN.{pos, natAbs};
 ghost use Rattle.arithmetic.specs.Table.{tabulate};
-ghost use Rattle.rows.specs.Output.{clamp};
-ghost use lib.Dec.{T};
 ghost use Rattle.arithmetic.specs.Weight as weight;
 ghost use Rattle.pixels.specs.Sizes.{badSize};
-ghost use Rattle.rows.specs.Output.{restDown, restUp};
+ghost use Rattle.rows.specs.Output.{clamp};
 ghost use Rattle.rows.specs.WorkRows.{halfOf, byteOut, rowLeft};
 ghost use Rattle.rows.specs.Done.{doneNumber};
-ghost use Rattle.rows.specs.Scaling.{within, scaleNumber, scaledOut, scaledWork};
 ghost use Rattle.rows.specs.Scaling as scaling;
+ghost use Rattle.rows.specs.Scaling.{within, scaleNumber, scaledOut, scaledWork};
 ghost use Rattle.rows.specs.Export.{ShrinkAsks, GrowAsks, DownAsks, UpAsks, shrinkLeft, shrinkByte, lowByte, mixed, growByte};
 
 fn at_most(s: i32) -> i32
@@ -81,7 +80,7 @@ fn shrink_lanes(work: &mut [u32], w: usize, step: u32, q: u32, out: &mut [u8])
     }
 }
 
-// The same for a ratio of 2^31 or more: rows of one or two values a lane.
+// The same for a ratio of 2^31 or more: spans 1 and 2.
 fn shrink_lanes_any(work: &mut [u32], w: usize, step: u32, q: u32, out: &mut [u8])
     requires { ⌜ ShrinkAsks (now work) (now out) w ⌝ }
     ensures out { λ _. ⌜ now (out .exit) ≡ tabulate (shrinkByte step q w (now (work .entry))) w ⌝ }
@@ -154,7 +153,7 @@ fn blended_any(newer: u32, older: u32, b: u32) -> u32
         / 4294967296) as u32
 }
 
-// The same for a factor of 2^31 or more, and any b: rows of span 2.
+// The same for a factor of 2^31 or more, and any b: span 2.
 fn blend_lanes_any(newer: &[u32], older: &[u32], w: usize, b: u32, factor: u32, out: &mut [u8])
     requires { ⌜ GrowAsks (now newer) (now older) (now out) w ⌝ }
     ensures { λ _. ⌜ now (out .exit) ≡ tabulate (growByte b factor (now (newer .entry)) (now (older .entry))) w ⌝ }
@@ -227,7 +226,8 @@ fn bad_size(size: Dimensions) -> bool
     }
 }
 
-// The height does not grow. FLOOR with the factor 0 is 0, so that d = 0 is no case of its own.
+// The height does not grow. FLOOR with the factor 0 is 0, so that d = 0 is no case of its own. The sizes are tested, and not the ratio: a compiler that
+// knew the ratio below 2^31 would drop the signed test of `byte_of`, and the saturating pack with it.
 fn shrink_row(
     sp: u32,
     h: u32,
@@ -250,14 +250,14 @@ fn shrink_row(
         take_lanes(work, w, out);
         return;
     }
-    if q < 2147483648 {
+    if 2 * (g as u64) < sp as u64 * h as u64 {
         shrink_lanes(work, w, step, q as u32, out);
         return;
     }
     shrink_lanes_any(work, w, step, q as u32, out);
 }
 
-// The height grows: no work value changes.
+// The height grows: no work value changes. The factor is 2^31 or more for span 2 alone, which is tested for the same reason.
 fn grow_row(sp: u32, h: u32, g: u32, used: u32, row: u32, w: usize, out: &mut [u8], work: &[u32])
     requires { ⌜ UpAsks h g used row ⌝ }
     requires { ⌜ ShrinkAsks (now work) (now out) w ⌝ }
@@ -270,7 +270,7 @@ fn grow_row(sp: u32, h: u32, g: u32, used: u32, row: u32, w: usize, out: &mut [u
     let newer = &work[at..at + w];
     let from = half_of(w, used);
     let older = &work[from..from + w];
-    if factor >= 2147483648 {
+    if sp == 2 {
         blend_lanes_any(newer, older, w, b, factor, out);
         return;
     }

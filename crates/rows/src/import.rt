@@ -15,7 +15,7 @@ ghost use mathlib.Core.Path.{_≡_};
 ghost use Prim.Native.Nat.{ℕ, _+_, _*_, _/_, _≤_, _<_};
 ghost use lib.ListN.{length, set};
 ghost use Rattle.arithmetic.specs.Word.{wrapAdd, wrapMul};
-ghost use Rattle.pixels.specs.Sizes.{lanes, halfValues, badSide};
+ghost use Rattle.pixels.specs.Sizes.{maxSide, lanes, halfValues, badSide};
 ghost use Rattle.pixels.specs.Refusals.{bufferIf};
 ghost use Rattle.pixels.specs.Lanes.{matted};
 ghost use Rattle.rows.specs.Done.{doneNumber};
@@ -215,7 +215,7 @@ fn make_column(
 
 // Stores the four values of column j.
 fn put4(half: &mut [u32], j: usize, v: Quad)
-    requires { ⌜ (lanes * j + lanes ≤ length (now half)) × (j < 16384) ⌝ }
+    requires { ⌜ (lanes * j + lanes ≤ length (now half)) × (j < maxSide) ⌝ }
     ensures { λ _. ⌜ now (half .exit) ≡ set (set (set (set (now (half .entry)) (lanes * j) (v .a)) (lanes * j + 1) (v .b)) (lanes * j + 2) (v .c)) (lanes * j + 3) (v .d) ⌝ }
 {
     let i = 4 * j;

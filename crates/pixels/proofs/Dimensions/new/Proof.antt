@@ -11,10 +11,10 @@ bad-size-requires : tie.Need-bad-size-requires
 bad-size-requires c κs = search needs
 
 returns : tie.Need-returns
-returns c = sized-refused InvalidDimensions _ _ (size-bad _ (sym ((c .before .bad-size) .ensures) ∙ (c .if1) .taken))
+returns c = sized-refused InvalidDimensions _ _ (size-bad _ (sym (c .before .bad-size .ensures) ∙ c .if1 .taken))
 
 returns-2 : tie.Need-returns-2
-returns-2 c = sized-accepted _ _ (size-passes _ (sym ((c .before .bad-size) .ensures) ∙ (c .if1) .left))
+returns-2 c = sized-accepted _ _ (size-passes _ (sym (c .before .bad-size .ensures) ∙ c .if1 .left))
 
 pub new-spec : {M : Type 1} → statement M
 new-spec = tie.close (tie.spec bad-size-requires returns returns-2)

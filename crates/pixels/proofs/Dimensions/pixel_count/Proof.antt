@@ -12,7 +12,7 @@ cast-result-2 : tie.Need-cast-result-2
 cast-result-2 c = search needs
 
 mul-result : tie.Need-mul-result
-mul-result c = omega (arith, most {x = (c .before .before .args) .self .width} {y = (c .before .before .args) .self .height} (omega arith) (omega arith))
+mul-result c = omega (arith, most {x = c .before .before .args .self .width} {y = c .before .before .args .self .height} (omega arith) (omega arith))
 
 returns : tie.Need-returns
 returns c = search needs

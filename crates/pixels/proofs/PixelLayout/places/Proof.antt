@@ -1,4 +1,6 @@
 -- The four places, read off the table. Assumes nothing.
+use Rattle.pixels.proofs.Tabled.{places-from}
+-- The four places, read off the table. Assumes nothing.
 use borrow.Author.Needs.{needs}
 use Rattle.pixels.proofs.PixelLayout.places.Statement.{statement}
 use Rattle.pixels.proofs.PixelLayout.places.Tie as tie
@@ -16,7 +18,7 @@ place-requires-4 : tie.Need-place-requires-4
 place-requires-4 c κs = search needs
 
 returns : tie.Need-returns
-returns c = cc
+returns c = places-from (c .before .before .before .before .args .self) (c .before .before .before .place .ensures .0) (c .before .before .place2 .ensures .0) (c .before .place3 .ensures .0) (c .place4 .ensures .0)
 
 pub places-spec : {M : Type 1} → statement M
 places-spec =

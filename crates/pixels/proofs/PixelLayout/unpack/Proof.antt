@@ -1,7 +1,5 @@
 -- The four lanes, read where the table says. Assumes nothing.
 use Rattle.pixels.proofs.Packing.{unpack-from}
-use Rattle.pixels.proofs.Tabled.{place-lt}
-use native.Mathlib.Omega.{arith}
 use borrow.Author.Needs.{needs}
 use Rattle.pixels.proofs.PixelLayout.unpack.Statement.{statement}
 use Rattle.pixels.proofs.PixelLayout.unpack.Tie as tie
@@ -19,22 +17,22 @@ place-requires-4 : tie.Need-place-requires-4
 place-requires-4 c κs = search needs
 
 array-read-word : tie.Need-array-read-word
-array-read-word c = omega (arith, (c .before .before .before .place) .ensures, place-lt ((c .before .before .before .before .args) .self) 0 (omega arith))
+array-read-word c = search needs
 
 array-read-word-2 : tie.Need-array-read-word-2
-array-read-word-2 c = omega (arith, (c .before .before .place2) .ensures, place-lt ((c .before .before .before .before .args) .self) 1 (omega arith))
+array-read-word-2 c = search needs
 
 array-read-word-3 : tie.Need-array-read-word-3
-array-read-word-3 c = omega (arith, (c .before .place3) .ensures, place-lt ((c .before .before .before .before .args) .self) 2 (omega arith))
+array-read-word-3 c = search needs
 
 array-read-word-4 : tie.Need-array-read-word-4
-array-read-word-4 c = omega (arith, (c .place4) .ensures, place-lt ((c .before .before .before .before .args) .self) 3 (omega arith))
+array-read-word-4 c = search needs
 
 word-requires : tie.Need-word-requires
 word-requires c κs = search needs
 
 returns : tie.Need-returns
-returns c = let a = (c .before .before .before .before .before .args) in unpack-from (a .self) (a .t2) _ _ _ _ ((c .before .before .before .before .place) .ensures) ((c .before .before .before .place2) .ensures) ((c .before .before .place3) .ensures) ((c .before .place4) .ensures) ((c .word) .ensures)
+returns c = let a = c .before .before .before .before .before .args in unpack-from (a .self) (a .t2) _ _ _ _ (c .before .before .before .before .place .ensures .0) (c .before .before .before .place2 .ensures .0) (c .before .before .place3 .ensures .0) (c .before .place4 .ensures .0) (c .word .ensures)
 
 pub unpack-spec : {M : Type 1} → statement M
 unpack-spec =

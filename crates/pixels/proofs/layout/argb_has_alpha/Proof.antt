@@ -33,10 +33,10 @@ shared-slice-read-if1 c = search needs
 
 returns : tie.Need-returns Inv-loop μ-loop
 unfolding argbHasAlpha
-returns c = let argb = (c .before .before .before .before .args) .argb .now in
-    let i = (c .before .before .before .loop) .i in
-    let w : getD argb i 0 < 2 ^ 32 = omega (arith, (c .before .shared-slice-known) .given i) in
-    sym (clear-at (λ j. laneOf (getD argb j 0) alphaLane) (length argb) i (omega arith) (λ e. (c .if1) .taken (sym (lane-high (getD argb i 0) w) ∙ e)))
+returns c = let argb = c .before .before .before .before .args .argb .now in
+    let i = c .before .before .before .loop .i in
+    let w : getD argb i 0 < 2 ^ 32 = omega (arith, c .before .shared-slice-known .given i) in
+    sym (clear-at (λ j. laneOf (getD argb j 0) alphaLane) (length argb) i (omega arith) (λ e. c .if1 .taken (sym (lane-high (getD argb i 0) w) ∙ e)))
 
 add-i : tie.Need-add-i Inv-loop μ-loop
 add-i c = search needs
@@ -45,15 +45,15 @@ loop-less : tie.Need-loop-less Inv-loop μ-loop
 loop-less c = search needs
 
 loop-again : tie.Need-loop-again Inv-loop μ-loop
-loop-again c = let argb = (c .before .before .before .before .args) .argb .now in
-    let i = (c .before .before .before .loop) .i in
-    let w : getD argb i 0 < 2 ^ 32 = omega (arith, (c .before .shared-slice-known) .given i) in
-    (omega arith, clear-next _ i ((c .before .before .before .loop) .inv .1) (lane-high (getD argb i 0) w ∙ (c .if1) .left))
+loop-again c = let argb = c .before .before .before .before .args .argb .now in
+    let i = c .before .before .before .loop .i in
+    let w : getD argb i 0 < 2 ^ 32 = omega (arith, c .before .shared-slice-known .given i) in
+    (omega arith, clear-next _ i (c .before .before .before .loop .inv .1) (lane-high (getD argb i 0) w ∙ c .if1 .left))
 
 returns-2 : tie.Need-returns-2 Inv-loop μ-loop
 unfolding argbHasAlpha
-returns-2 c = let e : (c .before .loop) .i ≡ length ((c .before .before .args) .argb .now) = omega arith in
-    sym (rw e at ((c .before .loop) .inv .1))
+returns-2 c = let e : c .before .loop .i ≡ length (c .before .before .args .argb .now) = omega arith in
+    sym (rw e at (c .before .loop .inv .1))
 
 pub argb-has-alpha-spec : {M : Type 1} → statement M
 argb-has-alpha-spec =

@@ -20,19 +20,19 @@ cast-result-4 c = search needs
 
 returns : tie.Need-returns
 unfolding laneOf
-returns c = rw ((c .match) .keys1) (omega arith)
+returns c = rw (c .match .keys1) (omega arith)
 
 returns-2 : tie.Need-returns-2
 unfolding laneOf
-returns-2 c = rw ((c .match) .keys2)
+returns-2 c = rw (c .match .keys2)
 
 returns-3 : tie.Need-returns-3
 unfolding laneOf
-returns-3 c = rw ((c .match) .keys3)
+returns-3 c = rw (c .match .keys3)
 
 returns-4 : tie.Need-returns-4
 unfolding laneOf
-returns-4 c = let a = (c .before .args) in let e : a .k ≡ 3 = omega (arith, (c .match) .rest .1, (c .match) .rest .0 .1, (c .match) .rest .0 .0 .1) in rw e (omega arith)
+returns-4 c = let a = c .before .args in let e : a .k ≡ 3 = omega (arith, c .match .rest .1, c .match .rest .0 .1, c .match .rest .0 .0 .1) in rw e (omega arith)
 
 pub lane-spec : {M : Type 1} → statement M
 lane-spec =

@@ -1,7 +1,7 @@
 -- The invariant: the bytes of the pixels passed, then the buffer as it was. Assumes nothing.
 use Rattle.pixels.proofs.Stretches.{none-filled, all-filled}
 use Rattle.pixels.proofs.Packing.{packed-turn, packed-length}
-use Rattle.pixels.specs.Layout.{packed, packedPixels}
+use Rattle.pixels.specs.Layout.{packedPixels}
 use native.Mathlib.Omega.{arith}
 use mathlib.Core.List.{_++_}
 use mathlib.Core.Path.{_≡_, refl, ap, _∙_}
@@ -38,7 +38,7 @@ pack-requires : tie.Need-pack-requires Inv-loop μ-loop
 pack-requires c κs = search needs
 
 put-requires : tie.Need-put-requires Inv-loop μ-loop
-put-requires c κs = (omega arith, ap length ((c .pack) .ensures) ∙ packed-length _ _)
+put-requires c κs = (omega arith, ap length (c .pack .ensures) ∙ packed-length _ _)
 
 add-i : tie.Need-add-i Inv-loop μ-loop
 add-i c = search needs
@@ -47,16 +47,16 @@ loop-less : tie.Need-loop-less Inv-loop μ-loop
 loop-less c = search needs
 
 loop-again : tie.Need-loop-again Inv-loop μ-loop
-loop-again c = let a = (c .before .before .before .before .before .before .before .before .before .before .args) in
-    let l = (c .before .before .before .before .before .before .before .loop) in
-    (omega arith, (c .before .before .put) .kept .0 ∙ l .inv .1, (c .before .before .put) .ensures ∙ rw ((c .before .before .before .pack) .ensures) (packed-turn (a .layout) (λ j. getD (a .argb .now) j 0) (l .i) (l .out) (a .out .now) (l .inv .2)))
+loop-again c = let a = c .before .before .before .before .before .before .before .before .before .before .args in
+    let l = c .before .before .before .before .before .before .before .loop in
+    (omega arith, c .before .before .put .kept .0 ∙ l .inv .1, c .before .before .put .ensures ∙ rw (c .before .before .before .pack .ensures) (packed-turn (a .layout) (λ j. getD (a .argb .now) j 0) (l .i) (l .out) (a .out .now) (l .inv .2)))
 
 same-length : tie.Need-same-length Inv-loop μ-loop
-same-length c = (c .before .loop) .inv .1
+same-length c = c .before .loop .inv .1
 
 returns : tie.Need-returns Inv-loop μ-loop
 unfolding packedPixels
-returns c = let e : (c .before .loop) .i ≡ length ((c .before .before .before .before .args) .argb .now) = omega arith in all-filled _ _ _ ((c .before .before .before .before .args) .out .now) ((c .before .before .before .before .pre)) (rw e at ((c .before .loop) .inv .2))
+returns c = let e : c .before .loop .i ≡ length (c .before .before .before .before .args .argb .now) = omega arith in all-filled _ _ _ (c .before .before .before .before .args .out .now) ((c .before .before .before .before .pre)) (rw e at (c .before .loop .inv .2))
 
 pub pack-into-spec : {M : Type 1} → statement M
 pack-into-spec =

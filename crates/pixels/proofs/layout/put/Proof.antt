@@ -43,7 +43,7 @@ same-length : tie.Need-same-length
 same-length c = search needs
 
 returns : tie.Need-returns
-returns c = put-four ((c .args) .out .now) ((c .args) .t3) ((c .args) .at) ((c .pre) .1) ((c .pre) .0)
+returns c = put-four (c .args .out .now) (c .args .t3) (c .args .at) (c .pre .1) (c .pre .0)
 
 pub put-spec : {M : Type 1} → statement M
 put-spec =

@@ -67,18 +67,18 @@ loop-less : tie.Need-loop-less Inv-loop μ-loop
 loop-less c = search needs
 
 loop-again : tie.Need-loop-again Inv-loop μ-loop
-loop-again c = let a = (c .before .before .before .before .before .before .before .before .before .args) in
-    let l = (c .before .before .before .before .before .before .loop) in
+loop-again c = let a = c .before .before .before .before .before .before .before .before .before .args in
+    let l = c .before .before .before .before .before .before .loop in
     let h : l .i < length (a .out .now) = omega arith in
-    let e = (c .unpack) .ensures ∙ unpacked-at (a .layout) (a .bytes .now) (l .i) in
+    let e = c .unpack .ensures ∙ unpacked-at (a .layout) (a .bytes .now) (l .i) in
     (omega arith, simp length-set (l .inv .1), rw (e, l .inv .2, add-one) (set-tabulate (pixelAt (a .layout) (a .bytes .now)) (l .i) (a .out .now) h))
 
 same-length : tie.Need-same-length Inv-loop μ-loop
-same-length c = (c .before .loop) .inv .1
+same-length c = c .before .loop .inv .1
 
 returns : tie.Need-returns Inv-loop μ-loop
 unfolding unpackedPixels
-returns c = let e : (c .before .loop) .i ≡ length ((c .before .before .before .before .args) .bytes .now) / 4 = omega arith in all-filled _ _ _ ((c .before .before .before .before .args) .out .now) ((c .before .before .before .before .pre)) (rw e at ((c .before .loop) .inv .2))
+returns c = let e : c .before .loop .i ≡ length (c .before .before .before .before .args .bytes .now) / 4 = omega arith in all-filled _ _ _ (c .before .before .before .before .args .out .now) ((c .before .before .before .before .pre)) (rw e at (c .before .loop .inv .2))
 
 pub unpack-into-spec : {M : Type 1} → statement M
 unpack-into-spec =

@@ -8,7 +8,7 @@ use Rattle.pixels.proofs.layout.unpack_pixels.Statement.{statement}
 use Rattle.pixels.proofs.layout.unpack_pixels.Tie as tie
 
 returns : tie.Need-returns
-returns c = let a = (c .before .before .before .args) in buffer-refused OutputLength _ _ _ (unpack-refused (length (a .bytes .now)) (length (a .out .now)) ((c .if1) .taken))
+returns c = let a = c .before .before .before .args in buffer-refused OutputLength _ _ _ (unpack-refused (length (a .bytes .now)) (length (a .out .now)) (c .if1 .taken))
 
 unpack-into-requires : tie.Need-unpack-into-requires
 unpack-into-requires c κs = search needs
@@ -17,7 +17,7 @@ same-length : tie.Need-same-length
 same-length c = search needs
 
 returns-2 : tie.Need-returns-2
-returns-2 c = let a = (c .before .before .before .before .before .before .before .args) in buffer-written _ _ _ (unpack-passes (length (a .bytes .now)) (length (a .out .now)) ((c .before .before .before .before .if1) .left)) ((c .before .before .unpack-into) .ensures)
+returns-2 c = let a = c .before .before .before .before .before .before .before .args in buffer-written _ _ _ (unpack-passes (length (a .bytes .now)) (length (a .out .now)) (c .before .before .before .before .if1 .left)) (c .before .before .unpack-into .ensures)
 
 pub unpack-pixels-spec : {M : Type 1} → statement M
 unpack-pixels-spec = tie.close (tie.spec returns unpack-into-requires same-length returns-2)

@@ -35,18 +35,18 @@ loop-less : tie.Need-loop-less Inv-loop μ-loop
 loop-less c = search needs
 
 loop-again : tie.Need-loop-again Inv-loop μ-loop
-loop-again c = let g = (c .before .before .before .args) in
-    let l = (c .before .before .loop) in
+loop-again c = let g = c .before .before .before .args in
+    let l = c .before .before .loop in
     let h : g .at + l .i < length (g .out .now) = omega arith in
     (omega arith, simp length-set (l .inv .1), rw (l .inv .2, add-one) (paste-suc (g .out .now) (g .at) (g .src .now) (l .i) 0 h (omega arith)))
 
 same-length : tie.Need-same-length Inv-loop μ-loop
-same-length c = (c .before .loop) .inv .1
+same-length c = c .before .loop .inv .1
 
 returns : tie.Need-returns Inv-loop μ-loop
-returns c = let g = (c .before .before .args) in
-    let e : (c .before .loop) .i ≡ length (g .src .now) = omega arith in
-    (rw (e, take-length) at ((c .before .loop) .inv .2)) ∙ append-assoc (take (g .at) (g .out .now)) (g .src .now) (drop (g .at + length (g .src .now)) (g .out .now))
+returns c = let g = c .before .before .args in
+    let e : c .before .loop .i ≡ length (g .src .now) = omega arith in
+    (rw (e, take-length) at (c .before .loop .inv .2)) ∙ append-assoc (take (g .at) (g .out .now)) (g .src .now) (drop (g .at + length (g .src .now)) (g .out .now))
 
 pub copy-at-spec : {M : Type 1} → statement M
 copy-at-spec =

@@ -30,17 +30,17 @@ mul-at : tie.Need-mul-at Inv-loop μ-loop
 mul-at c = search needs
 
 add-at : tie.Need-add-at Inv-loop μ-loop
-add-at c = omega (arith, (c .before .before .alpha-byte-offset) .ensures, place-lt ((c .before .before .before .before .args) .layout) alphaLane (omega arith))
+add-at c = omega (arith, c .before .before .alpha-byte-offset .ensures, place-lt (c .before .before .before .before .args .layout) alphaLane (omega arith))
 
 shared-slice-read-if1 : tie.Need-shared-slice-read-if1 Inv-loop μ-loop
-shared-slice-read-if1 c = omega (arith, (c .before .before .before .alpha-byte-offset) .ensures, place-lt ((c .before .before .before .before .before .args) .layout) alphaLane (omega arith))
+shared-slice-read-if1 c = omega (arith, c .before .before .before .alpha-byte-offset .ensures, place-lt (c .before .before .before .before .before .args .layout) alphaLane (omega arith))
 
 returns : tie.Need-returns Inv-loop μ-loop
 unfolding hasAlpha
-returns c = let g = (c .before .before .before .before .before .before .args) in
-    let o = (c .before .before .before .before .alpha-byte-offset) in
-    let i = (c .before .before .before .loop) .i in
-    let e = clear-at (λ j. getD (g .bytes .now) (lanes * j + o .result) 0) (length (g .bytes .now) / lanes) i (omega arith) ((c .if1) .taken) in
+returns c = let g = c .before .before .before .before .before .before .args in
+    let o = c .before .before .before .before .alpha-byte-offset in
+    let i = c .before .before .before .loop .i in
+    let e = clear-at (λ j. getD (g .bytes .now) (lanes * j + o .result) 0) (length (g .bytes .now) / lanes) i (omega arith) (c .if1 .taken) in
     sym (rw (o .ensures) at e)
 
 add-i : tie.Need-add-i Inv-loop μ-loop
@@ -50,14 +50,14 @@ loop-less : tie.Need-loop-less Inv-loop μ-loop
 loop-less c = search needs
 
 loop-again : tie.Need-loop-again Inv-loop μ-loop
-loop-again c = (omega arith, clear-next _ ((c .before .before .before .loop) .i) ((c .before .before .before .loop) .inv .1) ((c .if1) .left))
+loop-again c = (omega arith, clear-next _ (c .before .before .before .loop .i) (c .before .before .before .loop .inv .1) (c .if1 .left))
 
 returns-2 : tie.Need-returns-2 Inv-loop μ-loop
 unfolding hasAlpha
-returns-2 c = let g = (c .before .before .before .before .args) in
-    let o = (c .before .before .alpha-byte-offset) in
-    let e : (c .before .loop) .i ≡ length (g .bytes .now) / lanes = omega arith in
-    sym (rw (e, o .ensures) at ((c .before .loop) .inv .1))
+returns-2 c = let g = c .before .before .before .before .args in
+    let o = c .before .before .alpha-byte-offset in
+    let e : c .before .loop .i ≡ length (g .bytes .now) / lanes = omega arith in
+    sym (rw (e, o .ensures) at (c .before .loop .inv .1))
 
 pub has-alpha-spec : {M : Type 1} → statement M
 has-alpha-spec =

@@ -25,17 +25,17 @@ alpha-byte-offset-requires c κs = search needs
 loop-holds : tie.Need-loop-holds Inv-loop μ-loop
 loop-holds c = (omega arith, refl, partly-first _ _ _)
 
-mul-at : tie.Need-mul-at Inv-loop μ-loop
-mul-at c = search needs
+mul-to : tie.Need-mul-to Inv-loop μ-loop
+mul-to c = search needs
 
-add-at : tie.Need-add-at Inv-loop μ-loop
-add-at c = omega (arith, (c .before .before .alpha-byte-offset) .ensures, place-lt ((c .before .before .before .before .before .args) .layout) alphaLane (omega arith))
+add-to : tie.Need-add-to Inv-loop μ-loop
+add-to c = omega (arith, c .before .before .alpha-byte-offset .ensures, place-lt (c .before .before .before .before .before .args .layout) alphaLane (omega arith))
 
 shared-slice-read-pixels : tie.Need-shared-slice-read-pixels Inv-loop μ-loop
 shared-slice-read-pixels c = search needs
 
 slice-write-pixels : tie.Need-slice-write-pixels Inv-loop μ-loop
-slice-write-pixels c = omega (arith, (c .before .before .before .alpha-byte-offset) .ensures, place-lt ((c .before .before .before .before .before .before .args) .layout) alphaLane (omega arith))
+slice-write-pixels c = omega (arith, c .before .before .before .alpha-byte-offset .ensures, place-lt (c .before .before .before .before .before .before .args .layout) alphaLane (omega arith))
 
 add-i : tie.Need-add-i Inv-loop μ-loop
 add-i c = search needs
@@ -44,22 +44,22 @@ loop-less : tie.Need-loop-less Inv-loop μ-loop
 loop-less c = search needs
 
 loop-again : tie.Need-loop-again Inv-loop μ-loop
-loop-again c = let g = (c .before .before .before .before .before .before .args) in
-    let o = (c .before .before .before .alpha-byte-offset) in
-    let l = (c .before .before .loop) in
+loop-again c = let g = c .before .before .before .before .before .before .args in
+    let o = c .before .before .before .alpha-byte-offset in
+    let l = c .before .before .loop in
     let small : o .result < lanes = omega (arith, o .ensures, place-lt (g .layout) alphaLane (omega arith)) in
     (omega arith, simp length-set (l .inv .1), partly-turn (o .result) small (g .pixels .now) (g .plane .now) (l .pixels) (l .i) (omega arith) (l .inv .2))
 
 same-length : tie.Need-same-length Inv-loop μ-loop
-same-length c = (c .before .loop) .inv .1
+same-length c = c .before .loop .inv .1
 
 returns : tie.Need-returns Inv-loop μ-loop
 unfolding withAlpha
-returns c = let g = (c .before .before .before .before .before .args) in
-    let o = (c .before .before .alpha-byte-offset) in
+returns c = let g = c .before .before .before .before .before .args in
+    let o = c .before .before .alpha-byte-offset in
     let small : o .result < lanes = omega (arith, o .ensures, place-lt (g .layout) alphaLane (omega arith)) in
-    let e : (c .before .loop) .i ≡ length (g .plane .now) = omega arith in
-    let d = partly-done (o .result) small (g .pixels .now) (g .plane .now) ((c .before .loop) .pixels) ((c .before .before .before .before .before .pre)) ((c .before .loop) .inv .1) (rw e at ((c .before .loop) .inv .2)) in
+    let e : c .before .loop .i ≡ length (g .plane .now) = omega arith in
+    let d = partly-done (o .result) small (g .pixels .now) (g .plane .now) (c .before .loop .pixels) ((c .before .before .before .before .before .pre)) (c .before .loop .inv .1) (rw e at (c .before .loop .inv .2)) in
     rw (o .ensures) at d
 
 pub put-alpha-spec : {M : Type 1} → statement M
@@ -70,8 +70,8 @@ put-alpha-spec =
     μ-loop
     alpha-byte-offset-requires
     loop-holds
-    mul-at
-    add-at
+    mul-to
+    add-to
     shared-slice-read-pixels
     slice-write-pixels
     add-i

@@ -13,7 +13,7 @@ bad-side-requires c κs = search needs
 
 returns : tie.Need-returns
 unfolding badSize
-returns c = simp (sym ((c .before .bad-side) .ensures) ∙ (c .if1) .taken)
+returns c = simp (sym (c .before .bad-side .ensures) ∙ c .if1 .taken)
 
 cast-bad-side-2 : tie.Need-cast-bad-side-2
 cast-bad-side-2 c = search needs
@@ -23,7 +23,7 @@ bad-side-requires-2 c κs = search needs
 
 returns-2 : tie.Need-returns-2
 unfolding badSize
-returns-2 c = simp (sym ((c .before .before .before .bad-side) .ensures) ∙ (c .before .before .if1) .left) ((c .bad-side2) .ensures)
+returns-2 c = simp (sym (c .before .before .before .bad-side .ensures) ∙ c .before .before .if1 .left) (c .bad-side2 .ensures)
 
 pub bad-size-spec : {M : Type 1} → statement M
 bad-size-spec =

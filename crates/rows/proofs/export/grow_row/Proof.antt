@@ -1,5 +1,5 @@
 -- `grow_row` meets its contract: the two halves are lent as parts, and the loops' b and factor are document 01's. Assumes nothing.
-use Rattle.rows.proofs.Factors.{half-most, half-lent, grow-out, level-out}
+use Rattle.rows.proofs.Factors.{factor-half, half-most, half-lent, grow-out, level-out}
 use Prim.Native.Nat.{_*_, _-_}
 use native.Mathlib.Omega.{arith}
 use Rattle.arithmetic.proofs.Products.{most}
@@ -124,7 +124,9 @@ returns c =
     (c .before .before .blend-lanes-any .ensures)
 
 level-lanes-requires : tie.Need-level-lanes-requires
-level-lanes-requires c κs = search needs
+level-lanes-requires c κs =
+    let b = c .before .before .before .before .before .before .before in
+    (search needs, rw (b .frac2 .ensures) (factor-half (b .before .before .before .before .args .sp) (c .before .before .if1 .left)))
 
 same-length-2 : tie.Need-same-length-2
 same-length-2 c = search needs
@@ -141,7 +143,14 @@ returns-2 c =
     (c .before .before .before .before .if2 .taken) (c .before .before .level-lanes .ensures)
 
 blend-lanes-requires : tie.Need-blend-lanes-requires
-blend-lanes-requires c κs = search needs
+blend-lanes-requires c κs =
+    let b = c .before .before .before .before .before .before .before in (
+      search needs,
+      (
+        omega (arith, c .before .if2 .left),
+        rw (b .frac2 .ensures) (factor-half (b .before .before .before .before .args .sp) (c .before .before .if1 .left)),
+      ),
+    )
 
 same-length-3 : tie.Need-same-length-3
 same-length-3 c = search needs

@@ -1,5 +1,5 @@
 -- `shrink_row` meets its contract: d is in its range, so it fits; the loops' step and ratio are document 01's factors. Assumes nothing.
-use Rattle.rows.proofs.Factors.{step-of, ratio-most, shrink-out, shrink-work, take-out, take-work}
+use Rattle.rows.proofs.Factors.{step-of, ratio-most, ratio-half, shrink-out, shrink-work, take-out, take-work}
 use Rattle.rows.specs.Output.{ratio}
 use mathlib.Core.Path.{refl}
 use Prim.Native.Nat.{suc, _*_, _-_}
@@ -70,11 +70,23 @@ returns c =
           (c .before .before .before .before .before .before .before .if1 .taken) (c .before .before .before .before .take-lanes .ensures .1),
     )
 
+mul-if2 : tie.Need-mul-if2
+mul-if2 c = search needs
+
+mul-if2-2 : tie.Need-mul-if2-2
+mul-if2-2 c =
+    let b = c .before .before .before .before .before in
+    omega (arith, most (b .fits .sp .fits) (b .fits .h .fits))
+
 cast-shrink-lanes : tie.Need-cast-shrink-lanes
-cast-shrink-lanes c = search needs
+cast-shrink-lanes c =
+    let b = c .before .before .before .before .before .before .before in
+    omega (arith, ratio-half (b .args .sp) (b .args .h) (b .args .g) (c .before .if2 .taken))
 
 shrink-lanes-requires : tie.Need-shrink-lanes-requires
-shrink-lanes-requires c κs = search needs
+shrink-lanes-requires c κs =
+    let b = c .before .before .before .before .before .before .before .before in
+    (b .pre .1, ratio-half (b .args .sp) (b .args .h) (b .args .g) (c .before .before .if2 .taken))
 
 same-length-3 : tie.Need-same-length-3
 same-length-3 c = search needs
@@ -142,6 +154,8 @@ shrink-row-spec =
     same-length
     same-length-2
     returns
+    mul-if2
+    mul-if2-2
     cast-shrink-lanes
     shrink-lanes-requires
     same-length-3
