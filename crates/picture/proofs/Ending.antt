@@ -36,6 +36,7 @@ use Rattle.job.specs.Record.{R, Rules}
 use Rattle.claim.specs.Rows.{rowsOf, resizePlan, resized, resizedFlag}
 use Rattle.claim.proofs.Reading.{cropValue}
 use Rattle.picture.specs.Resize.{rowValueAt, lastFirst, lastSecond, resizedWork}
+use Rattle.picture.specs.Steps.{Driven}
 use Rattle.picture.proofs.Going.{bytesOf, Going, rowsOf-length}
 
 -- ---- the last output row needs every crop row
@@ -180,3 +181,10 @@ module _ (source : Dimensions) (layout : PixelLayout) (target : Dimensions) (pix
   pub resized-work : work ≡ resizedWork source layout target pixels work₀
   unfolding resizedWork
   resized-work = work-end (resizePlan source layout target) pixels out₀ work₀ j out work g all
+
+pub driven : (p : Plan) (pixels out₀ work₀ : List ℕ) (j : Job) (out work : List ℕ) → Going p pixels out₀ work₀ j out work → j .plan .target .height ≤ j .taken → Driven p pixels work₀ (j .flag) out work
+driven p pixels out₀ work₀ j out work g all = record {
+  out-is = out-end p pixels out₀ work₀ j out work g all;
+  flag-is = flag-end p pixels out₀ work₀ j out work g all;
+  work-is = work-end p pixels out₀ work₀ j out work g all;
+}

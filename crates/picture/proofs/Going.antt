@@ -121,7 +121,7 @@ module _ (p : Plan) (pixels out₀ work₀ : List ℕ) (j : Job) (out work : Lis
     abbrev pub lent : List ℕ
     lent = drop (rowBytes (j .plan .source .width) * j .accepted) pixels
 
-    lent-length : length lent ≡ rowBytes (j .plan .source .width) * (j .plan .source .height - j .accepted)
+    pub lent-length : length lent ≡ rowBytes (j .plan .source .width) * (j .plan .source .height - j .accepted)
     lent-length =
         rw (length-drop, g .pixels-long) (sym (mul-sub (rowBytes (j .plan .source .width)) (j .plan .source .height) (j .accepted)))
 
@@ -134,7 +134,7 @@ module _ (p : Plan) (pixels out₀ work₀ : List ℕ) (j : Job) (out work : Lis
     pub offer-accepted : offerNumber j (length lent) (length work) ≡ 0
     offer-accepted = offer-goes j (length lent) (length work) (g .rules) lent-whole (g .room) quiet remain
 
-    offered : OfferWent j lent work
+    pub offered : OfferWent j lent work
     offered = offer-went j lent work offer-accepted
 
     -- rows were accepted

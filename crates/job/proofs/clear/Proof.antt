@@ -32,7 +32,7 @@ loop-less c = search needs
 
 loop-again : tie.Need-loop-again Inv-loop μ-loop
 loop-again c = let v = (c .before .loop) .inv in
-    let h : (c .before .loop) .i < length ((c .before .before .args) .work .now) = omega arith in
+    let h : (c .before .loop) .i < length (c .before .before .args .work .now) = omega arith in
     (search needs, simp length-set (v .1), rw (v .2) (fill-more _ 0 _ h))
 
 same-length : tie.Need-same-length Inv-loop μ-loop

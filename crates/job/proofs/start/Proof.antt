@@ -14,8 +14,8 @@ enum-known-checked : tie.Need-enum-known-checked
 enum-known-checked c = search needs
 
 returns : tie.Need-returns
-returns c = let a = (c .before .before .before .before .before .args) in
-    start-sizes (planOf (a .source) (a .layout) (a .crop) (a .target)) (a .work .now) ((c .before .checked) .given .0 .0) (sym (rw ((c .before .checked) .given .1) at ((c .before .before .before .check-sizes) .ensures)))
+returns c = let a = c .before .before .before .before .before .args in
+    start-sizes (planOf (a .source) (a .layout) (a .crop) (a .target)) (a .work .now) (c .before .checked .given .0 .0) (sym (rw (c .before .checked .given .1) at (c .before .before .before .check-sizes .ensures)))
 
 enum-told : tie.Need-enum-told
 enum-told c = search needs
@@ -27,8 +27,8 @@ mul-n : tie.Need-mul-n
 mul-n c = search needs
 
 returns-2 : tie.Need-returns-2
-returns-2 c = let a = (c .before .before .before .before .before .before .args) in
-    start-short (planOf (a .source) (a .layout) (a .crop) (a .target)) (a .work .now) (sym (rw ((c .before .before .enum-told) .given .1) at ((c .before .before .before .before .check-sizes) .ensures))) (omega (arith, (c .if1) .taken))
+returns-2 c = let a = c .before .before .before .before .before .before .args in
+    start-short (planOf (a .source) (a .layout) (a .crop) (a .target)) (a .work .now) (sym (rw (c .before .before .enum-told .given .1) at (c .before .before .before .before .check-sizes .ensures))) (omega (arith, (c .if1) .taken))
 
 clear-requires : tie.Need-clear-requires
 clear-requires c κs = search needs
@@ -37,8 +37,8 @@ same-length : tie.Need-same-length
 same-length c = search needs
 
 returns-3 : tie.Need-returns-3
-returns-3 c = let a = (c .before .before .before .before .before .before .before .before .before .before .args) in
-    start-goes (planOf (a .source) (a .layout) (a .crop) (a .target)) (a .work .now) (sym (rw ((c .before .before .before .before .before .before .enum-told) .given .1) at ((c .before .before .before .before .before .before .before .before .check-sizes) .ensures))) _ _ (omega arith) ((c .before .before .before .before .if1) .left) ((c .before .before .clear) .ensures)
+returns-3 c = let a = c .before .before .before .before .before .before .before .before .before .before .args in
+    start-goes (planOf (a .source) (a .layout) (a .crop) (a .target)) (a .work .now) (sym (rw (c .before .before .before .before .before .before .enum-told .given .1) at (c .before .before .before .before .before .before .before .before .check-sizes .ensures))) _ _ (omega arith) (c .before .before .before .before .if1 .left) (c .before .before .clear .ensures)
 
 pub start-spec : {M : Type 1} → statement M
 start-spec =

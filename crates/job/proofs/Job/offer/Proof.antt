@@ -12,10 +12,10 @@ check-requires : tie.Need-check-requires
 check-requires c κs = search needs
 
 returns : tie.Need-returns
-returns c = let a = (c .before .before .before .before .args) in offer-unlawful (a .self) (a .rows .now) (a .work .now) (sym ((c .before .check) .ensures) ∙ not-true _ ((c .if1) .taken))
+returns c = let a = c .before .before .before .before .args in offer-unlawful (a .self) (a .rows .now) (a .work .now) (sym (c .before .check .ensures) ∙ not-true _ (c .if1 .taken))
 
 returns-2 : tie.Need-returns-2
-returns-2 c = let a = (c .before .before .before .before .before .args) in offer-empty (a .self) (a .rows .now) (a .work .now) (sym ((c .before .before .check) .ensures) ∙ not-false _ ((c .before .if1) .left)) ((c .if2) .taken)
+returns-2 c = let a = c .before .before .before .before .before .args in offer-empty (a .self) (a .rows .now) (a .work .now) (sym (c .before .before .check .ensures) ∙ not-false _ (c .before .if1 .left)) (c .if2 .taken)
 
 cast-if3 : tie.Need-cast-if3
 cast-if3 c = search needs
@@ -24,10 +24,10 @@ mul-if3 : tie.Need-mul-if3
 mul-if3 c = search needs
 
 rem-if3 : tie.Need-rem-if3
-rem-if3 c = let q = rules-of ((c .before .before .before .before .before .before .args) .self) (sym ((c .before .before .before .check) .ensures) ∙ not-false _ ((c .before .before .if1) .left)) in omega (arith, q .sizes .source-width .some)
+rem-if3 c = let q = rules-of (c .before .before .before .before .before .before .args .self) (sym (c .before .before .before .check .ensures) ∙ not-false _ (c .before .before .if1 .left)) in omega (arith, q .sizes .source-width .some)
 
 returns-3 : tie.Need-returns-3
-returns-3 c = let a = (c .before .before .before .before .before .before .before .args) in offer-ragged (a .self) (a .rows .now) (a .work .now) (sym ((c .before .before .before .before .check) .ensures) ∙ not-false _ ((c .before .before .before .if1) .left)) ((c .before .before .if2) .left) ((c .if3) .taken)
+returns-3 c = let a = c .before .before .before .before .before .before .before .args in offer-ragged (a .self) (a .rows .now) (a .work .now) (sym (c .before .before .before .before .check .ensures) ∙ not-false _ (c .before .before .before .if1 .left)) (c .before .before .if2 .left) (c .if3 .taken)
 
 cast-if4 : tie.Need-cast-if4
 cast-if4 c = search needs
@@ -36,7 +36,7 @@ mul-if4 : tie.Need-mul-if4
 mul-if4 c = search needs
 
 returns-4 : tie.Need-returns-4
-returns-4 c = let a = (c .before .before .before .before .before .before .before .before .before .args) in offer-short (a .self) (a .rows .now) (a .work .now) (sym ((c .before .before .before .before .before .before .check) .ensures) ∙ not-false _ ((c .before .before .before .before .before .if1) .left)) ((c .before .before .before .before .if2) .left) ((c .before .before .if3) .left) (omega (arith, (c .if4) .taken))
+returns-4 c = let a = c .before .before .before .before .before .before .before .before .before .args in offer-short (a .self) (a .rows .now) (a .work .now) (sym (c .before .before .before .before .before .before .check .ensures) ∙ not-false _ (c .before .before .before .before .before .if1 .left)) (c .before .before .before .before .if2 .left) (c .before .before .if3 .left) (omega (arith, (c .if4) .taken))
 
 cast-if5 : tie.Need-cast-if5
 cast-if5 c = search needs
@@ -45,28 +45,28 @@ made-requires : tie.Need-made-requires
 made-requires c κs = search needs
 
 returns-5 : tie.Need-returns-5
-returns-5 c = let a = (c .before .before .before .before .before .before .before .before .before .before .before .before .args) in
-    offer-row-ready (a .self) (a .rows .now) (a .work .now) (sym ((c .before .before .before .before .before .before .before .before .before .check) .ensures) ∙ not-false _ ((c .before .before .before .before .before .before .before .before .if1) .left)) ((c .before .before .before .before .before .before .before .if2) .left) ((c .before .before .before .before .before .if3) .left) (omega (arith, (c .before .before .before .if4) .left)) _ ((c .before .made) .ensures) ((c .if5) .taken)
+returns-5 c = let a = c .before .before .before .before .before .before .before .before .before .before .before .before .args in
+    offer-row-ready (a .self) (a .rows .now) (a .work .now) (sym (c .before .before .before .before .before .before .before .before .before .check .ensures) ∙ not-false _ (c .before .before .before .before .before .before .before .before .if1 .left)) (c .before .before .before .before .before .before .before .if2 .left) (c .before .before .before .before .before .if3 .left) (omega (arith, (c .before .before .before .if4) .left)) _ (c .before .made .ensures) (c .if5 .taken)
 
 returns-6 : tie.Need-returns-6
-returns-6 c = let a = (c .before .before .before .before .before .before .before .before .before .before .before .before .before .before .args) in
-    offer-over (a .self) (a .rows .now) (a .work .now) (sym ((c .before .before .before .before .before .before .before .before .before .before .before .check) .ensures) ∙ not-false _ ((c .before .before .before .before .before .before .before .before .before .before .if1) .left)) ((c .before .before .before .before .before .before .before .before .before .if2) .left) ((c .before .before .before .before .before .before .before .if3) .left) (omega (arith, (c .before .before .before .before .before .if4) .left)) _ ((c .before .before .before .made) .ensures) ((c .before .before .if5) .left) ((c .if6) .taken)
+returns-6 c = let a = c .before .before .before .before .before .before .before .before .before .before .before .before .before .before .args in
+    offer-over (a .self) (a .rows .now) (a .work .now) (sym (c .before .before .before .before .before .before .before .before .before .before .before .check .ensures) ∙ not-false _ (c .before .before .before .before .before .before .before .before .before .before .if1 .left)) (c .before .before .before .before .before .before .before .before .before .if2 .left) (c .before .before .before .before .before .before .before .if3 .left) (omega (arith, (c .before .before .before .before .before .if4) .left)) _ (c .before .before .before .made .ensures) (c .before .before .if5 .left) (c .if6 .taken)
 
 accept-requires : tie.Need-accept-requires
-accept-requires c κs = let a = (c .before .before .before .before .before .before .before .before .before .before .before .before .before .before .before .args) in
-    offering (a .self) (a .rows .now) (a .work .now) (sym ((c .before .before .before .before .before .before .before .before .before .before .before .before .check) .ensures) ∙ not-false _ ((c .before .before .before .before .before .before .before .before .before .before .before .if1) .left)) ((c .before .before .before .before .before .before .before .before .before .before .if2) .left) ((c .before .before .before .before .before .before .before .before .if3) .left) (omega (arith, (c .before .before .before .before .before .before .if4) .left)) _ ((c .before .before .before .before .made) .ensures) ((c .before .before .before .if5) .left) ((c .before .if6) .left)
+accept-requires c κs = let a = c .before .before .before .before .before .before .before .before .before .before .before .before .before .before .before .args in
+    offering (a .self) (a .rows .now) (a .work .now) (sym (c .before .before .before .before .before .before .before .before .before .before .before .before .check .ensures) ∙ not-false _ (c .before .before .before .before .before .before .before .before .before .before .before .if1 .left)) (c .before .before .before .before .before .before .before .before .before .before .if2 .left) (c .before .before .before .before .before .before .before .before .if3 .left) (omega (arith, (c .before .before .before .before .before .before .if4) .left)) _ (c .before .before .before .before .made .ensures) (c .before .before .before .if5 .left) (c .before .if6 .left)
 
 add-self : tie.Need-add-self
-add-self c = let a = (c .before .before .before .before .before .before .before .before .before .before .before .before .before .before .before .before .before .before .args) in
-    omega (arith, count-fits (a .self) _ _ (rules-of (a .self) (sym ((c .before .before .before .before .before .before .before .before .before .before .before .before .before .before .before .check) .ensures) ∙ not-false _ ((c .before .before .before .before .before .before .before .before .before .before .before .before .before .before .if1) .left))) ((c .before .before .accept) .ensures .0))
+add-self c = let a = c .before .before .before .before .before .before .before .before .before .before .before .before .before .before .before .before .before .before .args in
+    omega (arith, count-fits (a .self) _ _ (rules-of (a .self) (sym (c .before .before .before .before .before .before .before .before .before .before .before .before .before .before .before .check .ensures) ∙ not-false _ (c .before .before .before .before .before .before .before .before .before .before .before .before .before .before .if1 .left))) (c .before .before .accept .ensures .0))
 
 same-length : tie.Need-same-length
 same-length c = search needs
 
 returns-7 : tie.Need-returns-7
-returns-7 c = let a = (c .before .before .before .before .before .before .before .before .before .before .before .before .before .before .before .before .before .before .args) in
-    let goes = offering (a .self) (a .rows .now) (a .work .now) (sym ((c .before .before .before .before .before .before .before .before .before .before .before .before .before .before .before .check) .ensures) ∙ not-false _ ((c .before .before .before .before .before .before .before .before .before .before .before .before .before .before .if1) .left)) ((c .before .before .before .before .before .before .before .before .before .before .before .before .before .if2) .left) ((c .before .before .before .before .before .before .before .before .before .before .before .if3) .left) (omega (arith, (c .before .before .before .before .before .before .before .before .before .if4) .left)) _ ((c .before .before .before .before .before .before .before .made) .ensures) ((c .before .before .before .before .before .before .if5) .left) ((c .before .before .before .before .if6) .left) in
-    offer-accepts (a .self) (a .rows .now) (a .work .now) goes _ _ ((c .before .before .accept) .ensures .0) ((c .before .before .accept) .ensures .1)
+returns-7 c = let a = c .before .before .before .before .before .before .before .before .before .before .before .before .before .before .before .before .before .before .args in
+    let goes = offering (a .self) (a .rows .now) (a .work .now) (sym (c .before .before .before .before .before .before .before .before .before .before .before .before .before .before .before .check .ensures) ∙ not-false _ (c .before .before .before .before .before .before .before .before .before .before .before .before .before .before .if1 .left)) (c .before .before .before .before .before .before .before .before .before .before .before .before .before .if2 .left) (c .before .before .before .before .before .before .before .before .before .before .before .if3 .left) (omega (arith, (c .before .before .before .before .before .before .before .before .before .if4) .left)) _ (c .before .before .before .before .before .before .before .made .ensures) (c .before .before .before .before .before .before .if5 .left) (c .before .before .before .before .if6 .left) in
+    offer-accepts (a .self) (a .rows .now) (a .work .now) goes _ _ (c .before .before .accept .ensures .0) (c .before .before .accept .ensures .1)
 
 pub offer-spec : {M : Type 1} → statement M
 offer-spec =
