@@ -20,6 +20,8 @@ ghost use Rattle.pixels.specs.Sizes.{sizeOf, rectOf, scaledNumber, scaledSize};
 ghost use Rattle.pixels.specs.Picture.{hasAlpha, pictureNumber, cropped, cropNumber, withAlpha, alphaNumber};
 ghost use Rattle.job.specs.Record.{fresh};
 ghost use Rattle.job.specs.Calls.{startNumber, startWork, offerNumber, offerRows, offerJob, offerWork, takeNumber, takeJob, takeOut, takeWork};
+ghost use Rattle.claim.specs.Rows.{resized, resizedFlag};
+ghost use Rattle.picture.specs.Resize.{resizeNumber, resizedWork};
 ghost use Rattle.capi.specs.Words.{recordLength, wordsPlan, wordsJob, wordsLegal, recordFirst, storedJob};
 ghost use Rattle.capi.specs.Boundary.{boundaryFirst, misused, wordLayout, layoutWord, flagWord, stored, storedFlag, storedWord, storedSize};
 
@@ -344,6 +346,40 @@ pub extern "C" fn jonquilsaw_crop(
         height: crop_height,
     };
     let answer = pixels::crop(source, layout_of(layout), pixels, rect, out);
+    store_flag(answer, flag)
+}
+
+// A whole picture scaled, and its flag in one lent word.
+// Rules out: source and target exchanged; the picture written although the call was refused; the flag word left as it was.
+#[no_mangle]
+pub extern "C" fn jonquilsaw_resize(
+    source_width: u32,
+    source_height: u32,
+    layout: u32,
+    target_width: u32,
+    target_height: u32,
+    pixels: &[u8],
+    out: &mut [u8],
+    work: &mut [u32],
+    flag: &mut [u32],
+) -> u32
+    ensures number { λ r. ⌜ r ≡ boundaryFirst (misused layout (length (now (flag .entry))) 1) (resizeNumber (sizeOf «source_width» «source_height») (sizeOf «target_width» «target_height») (length (now (pixels .entry))) (length (now (out .entry))) (length (now (work .entry)))) ⌝ }
+    ensures out { λ r. ⌜ now (out .exit) ≡ bufferIf r (resized (sizeOf «source_width» «source_height») (wordLayout layout) (sizeOf «target_width» «target_height») (now (pixels .entry))) (now (out .entry)) ⌝ }
+    ensures work { λ r. ⌜ now (work .exit) ≡ bufferIf r (resizedWork (sizeOf «source_width» «source_height») (wordLayout layout) (sizeOf «target_width» «target_height») (now (pixels .entry)) (now (work .entry))) (now (work .entry)) ⌝ }
+    ensures flag { λ r. ⌜ now (flag .exit) ≡ bufferIf r (storedFlag (resizedFlag (sizeOf «source_width» «source_height») (wordLayout layout) (sizeOf «target_width» «target_height») (now (pixels .entry))) (now (flag .entry))) (now (flag .entry)) ⌝ }
+{
+    if misused(layout, flag.len(), 1) {
+        return BOUNDARY;
+    }
+    let source = Dimensions {
+        width: source_width,
+        height: source_height,
+    };
+    let target = Dimensions {
+        width: target_width,
+        height: target_height,
+    };
+    let answer = picture::resize(source, layout_of(layout), target, pixels, out, work);
     store_flag(answer, flag)
 }
 
