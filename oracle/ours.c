@@ -109,10 +109,10 @@ static void plane(const uint64_t* v) {
 }
 
 static void has_alpha(const uint64_t* v) {
-  Buffer px = lend_pixels((uint32_t)v[0], v[2], v[3], v[1]);
+  Buffer px = lend_pixels((uint32_t)v[0], v[4], v[5], v[3]);
   uint32_t flag = 0;
   keep(&px);
-  const uint32_t n = ours_has_alpha(v[0], px.at, px.n, &flag);
+  const uint32_t n = ours_has_alpha(v[0], v[1], v[2], px.at, px.n, &flag);
   if (n == OURS_ABSENT) puts("-");
   else whole(n, flag, NULL, NULL, intact(&px));
   give_back(px);
@@ -209,7 +209,7 @@ int main(void) {
     if (!strcmp(kind, "resize")) numbers(&at, v, 10), resize(v);
     else if (!strcmp(kind, "crop")) numbers(&at, v, 11), crop(v);
     else if (!strcmp(kind, "plane")) numbers(&at, v, 7), plane(v);
-    else if (!strcmp(kind, "flag")) numbers(&at, v, 4), has_alpha(v);
+    else if (!strcmp(kind, "flag")) numbers(&at, v, 6), has_alpha(v);
     else if (!strcmp(kind, "unpack")) numbers(&at, v, 5), unpack_all(v);
     else if (!strcmp(kind, "pack")) numbers(&at, v, 5), pack_all(v);
     else if (!strcmp(kind, "scaled")) numbers(&at, v, 4), scaled(v);

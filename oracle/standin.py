@@ -125,7 +125,9 @@ def answer(kind, words):
         px = made(v[0], v[5], v[6], v[3])
         return shown(M.apply_alpha_plane(v[1], v[2], layout, px, plane_of(v[5], v[6], v[4])), px, None)
     if kind == "flag":
-        return shown(M.has_alpha(layout, made(v[0], v[2], v[3], v[1])), b"", None)
+        px = made(v[0], v[4], v[5], v[3])
+        sides, length = M.side_ok(v[1]) and M.side_ok(v[2]), len(px) == 4 * v[1] * v[2]
+        return shown(M.has_alpha(layout, px) if sides and length else M.Refused(3 if sides else 1), b"", None)
     if kind == "unpack":
         words = fill_words(v[2])
         got = M.unpack_pixels(layout, made(v[0], v[3], v[4], v[1]), words)

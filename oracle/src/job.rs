@@ -52,7 +52,7 @@ pub enum Job {
     Resize { layout: u32, w: u32, h: u32, tw: u32, th: u32, pixels: usize, out: usize, work: usize, px: Pixels },
     Crop { layout: u32, w: u32, h: u32, x: u32, y: u32, cw: u32, ch: u32, pixels: usize, out: usize, px: Pixels },
     Plane { layout: u32, w: u32, h: u32, pixels: usize, plane: usize, px: Pixels },
-    Flag { layout: u32, pixels: usize, px: Pixels },
+    Flag { layout: u32, w: u32, h: u32, pixels: usize, px: Pixels },
     Unpack { layout: u32, bytes: usize, out: usize, px: Pixels },
     Pack { layout: u32, count: usize, out: usize, px: Pixels },
     Scaled { w: u32, h: u32, tw: u32, th: u32 },
@@ -69,7 +69,7 @@ impl fmt::Display for Job {
                 write!(f, "crop {layout} {w} {h} {x} {y} {cw} {ch} {pixels} {out} {} {}", px.pattern, px.seed)
             }
             Job::Plane { layout, w, h, pixels, plane, px } => write!(f, "plane {layout} {w} {h} {pixels} {plane} {} {}", px.pattern, px.seed),
-            Job::Flag { layout, pixels, px } => write!(f, "flag {layout} {pixels} {} {}", px.pattern, px.seed),
+            Job::Flag { layout, w, h, pixels, px } => write!(f, "flag {layout} {w} {h} {pixels} {} {}", px.pattern, px.seed),
             Job::Unpack { layout, bytes, out, px } => write!(f, "unpack {layout} {bytes} {out} {} {}", px.pattern, px.seed),
             Job::Pack { layout, count, out, px } => write!(f, "pack {layout} {count} {out} {} {}", px.pattern, px.seed),
             Job::Scaled { w, h, tw, th } => write!(f, "scaled {w} {h} {tw} {th}"),
@@ -133,7 +133,7 @@ impl Job {
                 px: v.px()?,
             },
             "plane" => Job::Plane { layout: v.num()?, w: v.num()?, h: v.num()?, pixels: v.size()?, plane: v.size()?, px: v.px()? },
-            "flag" => Job::Flag { layout: v.num()?, pixels: v.size()?, px: v.px()? },
+            "flag" => Job::Flag { layout: v.num()?, w: v.num()?, h: v.num()?, pixels: v.size()?, px: v.px()? },
             "unpack" => Job::Unpack { layout: v.num()?, bytes: v.size()?, out: v.size()?, px: v.px()? },
             "pack" => Job::Pack { layout: v.num()?, count: v.size()?, out: v.size()?, px: v.px()? },
             "scaled" => Job::Scaled { w: v.num()?, h: v.num()?, tw: v.num()?, th: v.num()? },

@@ -289,7 +289,7 @@ fn bad(r: &mut Random) -> Job {
     let (w0, h0, tw0, th0) = (r.within(1, 6), r.within(1, 6), r.within(1, 6), r.within(1, 6));
     let (w, h) = (wrong_side(w0, r), wrong_side(h0, r));
     let pixels = off_length(bytes_of(w, h), r);
-    match r.below(8) {
+    match r.below(9) {
         0..=2 => {
             let (tw, th) = (wrong_side(tw0, r), wrong_side(th0, r));
             let out = off_length(bytes_of(tw, th), r);
@@ -307,6 +307,7 @@ fn bad(r: &mut Random) -> Job {
             let plane = off_length(bytes_of(w, h) / 4, r);
             Job::Plane { layout, w, h, pixels, plane, px }
         }
+        7 => Job::Flag { layout, w, h, pixels, px },
         _ => Job::Scaled { w, h, tw: wrong_side(tw0, r), th: wrong_side(th0, r) },
     }
 }
@@ -368,7 +369,7 @@ fn beside(r: &mut Random) -> Job {
             Job::Crop { layout, w, h, x: s.x, y: s.y, cw: s.cw, ch: s.ch, pixels, out, px }
         }
         1 => Job::Plane { layout, w, h, pixels, plane: pixels / 4, px },
-        2 => Job::Flag { layout, pixels, px },
+        2 => Job::Flag { layout, w, h, pixels, px },
         3 => {
             let bytes = r.below(200) as usize;
             let out = if r.one_in(5) { bytes / 4 + 1 } else { bytes / 4 };

@@ -4,6 +4,7 @@
 //! must be the one that its 32-bit restore explains.
 use crate::job::Job;
 use crate::{jobs, original};
+use std::collections::BTreeMap;
 use std::io::{BufRead, BufReader, BufWriter, Write};
 use std::process::{Child, Command, Stdio};
 use std::sync::Arc;
@@ -28,7 +29,7 @@ enum Side {
 #[derive(Default)]
 struct Count {
     asked: u64,
-    skipped: u64,
+    left_out: BTreeMap<String, u64>,
     explained: u64,
     wrapping: u64,
     differ: u64,
@@ -55,7 +56,7 @@ struct Driver {
 
 fn hold(side: Side, j: &Judged, got: &str, count: &mut Count) {
     if got == "-" {
-        count.skipped += 1;
+        *count.left_out.entry(j.line.split(' ').next().unwrap().to_owned()).or_default() += 1;
         return;
     }
     count.asked += 1;
@@ -179,11 +180,13 @@ pub fn run(sets: &[(&str, u64)], seed: u64, libwebp: Option<&str>, ours: Option<
     let mut agree = own == 0;
     for (name, c) in drivers.into_iter().map(Driver::finish) {
         agree &= c.differ == 0 && c.asked > 0;
-        print!("{name}: {} of {total} jobs asked, {} left out, {} differ", c.asked, c.skipped, c.differ);
+        println!("{name}: {} of {total} jobs asked, {} differ", c.asked, c.differ);
         if name == "libwebp" {
-            print!("; of {} where sums may wrap, {} differ by the 32-bit restore", c.wrapping, c.explained);
+            println!("{name}: of {} jobs whose sums may wrap, {} differ as the 32-bit restore explains", c.wrapping, c.explained);
         }
-        println!();
+        if !c.left_out.is_empty() {
+            println!("{name}: not asked: {}", c.left_out.iter().map(|(kind, n)| format!("{kind} {n}")).collect::<Vec<_>>().join(", "));
+        }
         for (_, line, want, got) in &c.smallest {
             println!("  job      {}\n  original {}\n  {name:8} {}", cut(line), cut(want), cut(got));
         }

@@ -148,10 +148,15 @@ fn whole_answer(job: &Job) -> String {
             crop(&s, *pixels, *out, px)
         }
         Job::Plane { layout, w, h, pixels, plane, px } => apply_plane(*layout, (*w, *h), *pixels, *plane, px),
-        Job::Flag { layout: l, pixels, px } => {
+        Job::Flag { layout: l, w, h, pixels, px } => {
+            let number = table::picture(*w, *h, *pixels);
             let all = bytes(*l, px.pattern, px.seed, *pixels);
-            let flag = Image::new(Dimensions::new((*pixels / 4) as u32, 1).unwrap(), layout(*l), all).unwrap().has_alpha();
-            format!("0 {} - - 1", u8::from(flag))
+            let asked = Dimensions::new(*w, *h).and_then(|d| Image::new(d, layout(*l), all));
+            let said = asked.as_ref().map_or_else(|e| *e as u32, |_| 0);
+            if said != number {
+                return format!("! the table says {number}, the original {said}");
+            }
+            Whole { number, flag: asked.is_ok_and(|image| image.has_alpha()), out: Vec::new(), work: None }.line()
         }
         Job::Unpack { layout: l, bytes: len, out, px } => {
             let words = unpack_pixels(layout(*l), &bytes(*l, px.pattern, px.seed, *len));

@@ -45,11 +45,19 @@ pub fn crop(s: &Sizes, pixels: usize, out: usize) -> u32 {
     }
 }
 
-pub fn plane(w: u32, h: u32, pixels: usize, plane: usize) -> u32 {
+/// A picture alone, as the alpha flag takes it.
+pub fn picture(w: u32, h: u32, pixels: usize) -> u32 {
     if !(side_ok(w) && side_ok(h)) {
         return 1;
     }
-    first(&[(pixels != 4 * pixels_of(w, h) || plane != pixels_of(w, h), 3)])
+    first(&[(pixels != 4 * pixels_of(w, h), 3)])
+}
+
+pub fn plane(w: u32, h: u32, pixels: usize, plane: usize) -> u32 {
+    match picture(w, h, pixels) {
+        0 => first(&[(plane != pixels_of(w, h), 3)]),
+        n => n,
+    }
 }
 
 pub fn start(s: &Sizes, work: usize) -> u32 {
