@@ -39,6 +39,10 @@ struct Count {
 impl Count {
     fn differs(&mut self, j: &Judged, got: &str) {
         self.differ += 1;
+        if self.differ == 1 {
+            // The rest, smallest first, at the end: a long run says at once that there is one.
+            eprintln!("a difference: {}", cut(&j.line));
+        }
         self.smallest.push((j.job.weight(), j.line.clone(), j.answer.clone(), got.to_owned()));
         self.smallest.sort_by_key(|s| (s.0, s.1.len()));
         self.smallest.truncate(5);
