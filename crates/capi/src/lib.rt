@@ -309,7 +309,11 @@ pub extern "C" fn jonquilsaw_has_alpha(
     if misused(layout, flag.len(), 1) {
         return BOUNDARY;
     }
-    let answer = pixels::picture_has_alpha(Dimensions { width, height }, layout_of(layout), pixels);
+    let answer = pictures::picture_has_alpha(
+        Dimensions { width, height },
+        layout_of(layout),
+        pixels,
+    );
     store_flag(answer, flag)
 }
 
@@ -345,7 +349,7 @@ pub extern "C" fn jonquilsaw_crop(
         width: crop_width,
         height: crop_height,
     };
-    let answer = pixels::crop(source, layout_of(layout), pixels, rect, out);
+    let answer = pictures::crop(source, layout_of(layout), pixels, rect, out);
     store_flag(answer, flag)
 }
 
@@ -401,7 +405,7 @@ pub extern "C" fn jonquilsaw_apply_alpha_plane(
     if misused(layout, flag.len(), 1) {
         return BOUNDARY;
     }
-    let answer = pixels::apply_alpha_plane(
+    let answer = pictures::apply_alpha_plane(
         Dimensions { width, height },
         layout_of(layout),
         pixels,
