@@ -3,3 +3,11 @@ pub mod Output
 pub mod WorkRows
 pub mod Closed
 pub mod Mean
+pub mod Lanes
+pub mod Done
+pub mod Incoming
+pub mod Import
+pub mod Scaling
+pub mod Export
+pub mod Restoring
+pub mod Pixelwise

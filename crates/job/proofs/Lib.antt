@@ -1,0 +1,9 @@
+pub mod Rules
+pub mod Counting
+pub mod Views
+pub mod Answering
+pub mod RowIn
+pub mod Restoring
+pub mod Accepting
+pub mod RowOut
+pub mod Lengths

@@ -1,0 +1,191 @@
+-- What each call comes to: turned away with everything as it was, or gone through; and with buffers of the right length, which. Nothing above
+-- opens the definitions of the calls. Assumes nothing.
+use Prim.Native.Nat.{ℕ, _+_, _-_, _%_, _≤_, _<_}
+use mathlib.Core.Path.{_≡_, refl, sym, _∙_}
+use mathlib.Core.Logic.{_⊎_, inl, inr}
+use mathlib.Core.Bool.{Bool, true, false, not, _||_}
+use mathlib.Core.List.{List}
+use native.Mathlib.Omega.{arith}
+use lib.Dec.{eqb, leb, ltb}
+use lib.ListN.{length}
+use borrow.Author.Tests.{lt-ltb, le-ltb, le-leb, lt-leb, eq-eqb, ne-eqb, leb-false, eqb-true, eqb-false, ltb-false}
+use Rattle.pixels.specs.declared.Refusal.the-variants.{PixelBufferMismatch, OutputLength, WorkLength, InvalidRecord, RowReady, AllAccepted, NoneReady}
+use Rattle.pixels.specs.Refusals.{number, refusedIf, firstOf}
+use Rattle.pixels.specs.Sizes.{rowBytes, workValues, sizesNumber, Fits}
+use Rattle.pixels.proofs.Fitting.{fits-of, fits-good}
+use Rattle.pixels.proofs.Causes.{test, neither-true, not-false, refused-yes, refused-no, refused-zero, first-zero, first-passes, first-stops}
+use Rattle.job.specs.declared.Plan.{Plan}
+use Rattle.job.specs.declared.Job.{Job}
+use Rattle.job.specs.Record.{R, lawful, Rules}
+use Rattle.job.specs.Calls.{shortWork, startNumber, startWork, cleared, badRows, offerNumber, offerRows, offerJob, offerWork, count, moreAccepted, fed, takeNumber, takeJob, takeOut, takeWork, moreTaken, rowTaken, workTaken}
+use Rattle.job.proofs.Rules.{rules-of, rules-good}
+
+-- ---- lengths that are right
+pub record WholeRows (p : Plan) (n : ℕ) : Type 0 where
+  pub some : 0 < n
+  pub whole : n % rowBytes (p .source .width) ≡ 0
+
+pub whole-of : (p : Plan) (n : ℕ) → badRows p n ≡ false → WholeRows p n
+whole-of p n e =
+    let q = neither-true (eqb n 0) _ e in
+    record { some = omega (arith, eqb-false n 0 (q .0)); whole = eqb-true _ 0 (not-false _ (q .1)) }
+
+pub whole-good : (p : Plan) (n : ℕ) → WholeRows p n → badRows p n ≡ false
+whole-good p n w = simp (ne-eqb n 0 (λ e. omega (arith, w .some)), eq-eqb (n % rowBytes (p .source .width)) 0 (w .whole))
+
+room-of : (p : Plan) (w : ℕ) → shortWork p w ≡ 0 → workValues (p .target .width) ≤ w
+room-of p w e = ltb-false w _ (refused-zero _ WorkLength e)
+
+room-good : (p : Plan) (w : ℕ) → workValues (p .target .width) ≤ w → shortWork p w ≡ 0
+room-good p w h = refused-no _ WorkLength (le-ltb w (workValues (p .target .width)) h)
+
+lawful-of : (j : Job) → refusedIf (not (lawful j)) InvalidRecord ≡ 0 → Rules j
+lawful-of j e = rules-of j (not-false _ (refused-zero _ InvalidRecord e))
+
+lawful-good : (j : Job) → Rules j → refusedIf (not (lawful j)) InvalidRecord ≡ 0
+lawful-good j r = simp (rules-good j r)
+
+-- ---- start
+pub record StartWent (p : Plan) (work : List ℕ) : Type 0 where
+  pub sizes : Fits (p .source) (p .crop) (p .target)
+  pub room : workValues (p .target .width) ≤ length work
+  pub work-after : startWork p work ≡ cleared p work
+
+pub start-went : (p : Plan) (work : List ℕ) → startNumber p (length work) ≡ 0 → StartWent p work
+unfolding startNumber startWork
+start-went p work e =
+    let q = first-zero (sizesNumber (p .source) (p .crop) (p .target)) (shortWork p (length work)) e in
+    record {
+      sizes = fits-of (p .source) (p .crop) (p .target) (q .0);
+      room = room-of p (length work) (q .1);
+      work-after = simp (eq-eqb _ 0 e);
+    }
+
+-- ---- offer
+pub record OfferTurned (j : Job) (rows work : List ℕ) : Type 0 where
+  pub none : offerRows j (length rows) (length work) ≡ 0
+  pub same : offerJob j (length rows) (length work) ≡ j
+  pub kept : offerWork j rows work ≡ work
+
+pub record OfferWent (j : Job) (rows work : List ℕ) : Type 0 where
+  pub rules : Rules j
+  pub whole : WholeRows (j .plan) (length rows)
+  pub room : workValues (j .plan .target .width) ≤ length work
+  pub none-ready : R (j .plan) (j .accepted) ≤ j .taken
+  pub remain : j .accepted < j .plan .source .height
+  pub goes : offerNumber j (length rows) (length work) ≡ 0
+  pub some : offerRows j (length rows) (length work) ≡ count j (length rows)
+  pub next : offerJob j (length rows) (length work) ≡ moreAccepted j (count j (length rows))
+  pub work-after : offerWork j rows work ≡ fed (j .plan) rows (j .accepted) (count j (length rows)) work
+
+pub offer-went : (j : Job) (rows work : List ℕ) → offerNumber j (length rows) (length work) ≡ 0 → OfferWent j rows work
+unfolding offerNumber offerRows offerJob offerWork
+offer-went j rows work e =
+    let a = first-zero (refusedIf (not (lawful j)) InvalidRecord) _ e in
+    let b = first-zero (refusedIf (badRows (j .plan) (length rows)) PixelBufferMismatch) _ (a .1) in
+    let c = first-zero (shortWork (j .plan) (length work)) _ (b .1) in
+    let d = first-zero (refusedIf (ltb (j .taken) (R (j .plan) (j .accepted))) RowReady) _ (c .1) in
+    record {
+      rules = lawful-of j (a .0);
+      whole = whole-of (j .plan) (length rows) (refused-zero _ PixelBufferMismatch (b .0));
+      room = room-of (j .plan) (length work) (c .0);
+      none-ready = ltb-false _ _ (refused-zero _ RowReady (d .0));
+      remain = leb-false _ _ (refused-zero _ AllAccepted (d .1));
+      goes = e;
+      some = simp (eq-eqb _ 0 e);
+      next = simp (eq-eqb _ 0 e);
+      work-after = simp (eq-eqb _ 0 e);
+    }
+
+pub offer-turned : (j : Job) (rows work : List ℕ) → eqb (offerNumber j (length rows) (length work)) 0 ≡ false → OfferTurned j rows work
+unfolding offerRows offerJob offerWork
+offer-turned j rows work e = record { none = simp e; same = simp e; kept = simp e }
+
+pub offer-view : (j : Job) (rows work : List ℕ) → OfferTurned j rows work ⊎ OfferWent j rows work
+offer-view j rows work = by (test (eqb (offerNumber j (length rows) (length work)) 0))
+  where
+    by : (eqb (offerNumber j (length rows) (length work)) 0 ≡ true) ⊎ (eqb (offerNumber j (length rows) (length work)) 0 ≡ false) → OfferTurned j rows work ⊎ OfferWent j rows work
+    by (inl e) = inr (offer-went j rows work (eqb-true _ 0 e))
+    by (inr e) = inl (offer-turned j rows work e)
+
+-- with buffers of the right length
+module _ (j : Job) (n w : ℕ) (rules : Rules j) (whole : WholeRows (j .plan) n) (room : workValues (j .plan .target .width) ≤ w) where
+  past : {b : ℕ} → firstOf (refusedIf (not (lawful j)) InvalidRecord) (firstOf (refusedIf (badRows (j .plan) n) PixelBufferMismatch) (firstOf (shortWork (j .plan) w) b)) ≡ b
+  past =
+      first-passes _ _ (lawful-good j rules) ∙ first-passes _ _ (refused-no _ PixelBufferMismatch (whole-good (j .plan) n whole))
+      ∙ first-passes _ _ (room-good (j .plan) w room)
+
+  pub offer-goes : R (j .plan) (j .accepted) ≤ j .taken → j .accepted < j .plan .source .height → offerNumber j n w ≡ 0
+  unfolding offerNumber
+  offer-goes a b =
+      past ∙ first-passes _ _ (refused-no _ RowReady (le-ltb (j .taken) (R (j .plan) (j .accepted)) a))
+      ∙ refused-no _ AllAccepted (lt-leb (j .plan .source .height) (j .accepted) b)
+
+  pub offer-ready : j .taken < R (j .plan) (j .accepted) → offerNumber j n w ≡ number RowReady
+  unfolding offerNumber
+  offer-ready a = past ∙ first-stops RowReady _ _ (refused-yes _ RowReady (lt-ltb (j .taken) (R (j .plan) (j .accepted)) a))
+
+  pub offer-all : R (j .plan) (j .accepted) ≤ j .taken → j .plan .source .height ≤ j .accepted → offerNumber j n w ≡ number AllAccepted
+  unfolding offerNumber
+  offer-all a b =
+      past ∙ first-passes _ _ (refused-no _ RowReady (le-ltb (j .taken) (R (j .plan) (j .accepted)) a))
+      ∙ refused-yes _ AllAccepted (le-leb (j .plan .source .height) (j .accepted) b)
+
+-- ---- take
+pub record TakeTurned (j : Job) (out work : List ℕ) : Type 0 where
+  pub refused : eqb (takeNumber j (length out) (length work)) 0 ≡ false
+  pub same : takeJob j (length out) work ≡ j
+  pub kept : takeWork j (length out) work ≡ work
+  pub unwritten : takeOut j out work ≡ out
+
+pub record TakeWent (j : Job) (out work : List ℕ) : Type 0 where
+  pub rules : Rules j
+  pub exact : length out ≡ rowBytes (j .plan .target .width)
+  pub room : workValues (j .plan .target .width) ≤ length work
+  pub ready : j .taken < R (j .plan) (j .accepted)
+  pub goes : takeNumber j (length out) (length work) ≡ 0
+  pub next : takeJob j (length out) work ≡ moreTaken j (rowTaken j work)
+  pub work-after : takeWork j (length out) work ≡ workTaken j work
+  pub out-after : takeOut j out work ≡ rowTaken j work
+
+pub take-went : (j : Job) (out work : List ℕ) → takeNumber j (length out) (length work) ≡ 0 → TakeWent j out work
+unfolding takeNumber takeJob takeWork takeOut
+take-went j out work e =
+    let a = first-zero (refusedIf (not (lawful j)) InvalidRecord) _ e in
+    let b = first-zero (refusedIf (not (eqb (length out) (rowBytes (j .plan .target .width)))) OutputLength) _ (a .1) in
+    let c = first-zero (shortWork (j .plan) (length work)) _ (b .1) in
+    record {
+      rules = lawful-of j (a .0);
+      exact = eqb-true _ _ (not-false _ (refused-zero _ OutputLength (b .0)));
+      room = room-of (j .plan) (length work) (c .0);
+      ready = leb-false _ _ (refused-zero _ NoneReady (c .1));
+      goes = e;
+      next = simp (eq-eqb _ 0 e);
+      work-after = simp (eq-eqb _ 0 e);
+      out-after = simp (eq-eqb _ 0 e);
+    }
+
+pub take-turned : (j : Job) (out work : List ℕ) → eqb (takeNumber j (length out) (length work)) 0 ≡ false → TakeTurned j out work
+unfolding takeJob takeWork takeOut
+take-turned j out work e = record { refused = e; same = simp e; kept = simp e; unwritten = simp e }
+
+pub take-view : (j : Job) (out work : List ℕ) → TakeTurned j out work ⊎ TakeWent j out work
+take-view j out work = by (test (eqb (takeNumber j (length out) (length work)) 0))
+  where
+    by : (eqb (takeNumber j (length out) (length work)) 0 ≡ true) ⊎ (eqb (takeNumber j (length out) (length work)) 0 ≡ false) → TakeTurned j out work ⊎ TakeWent j out work
+    by (inl e) = inr (take-went j out work (eqb-true _ 0 e))
+    by (inr e) = inl (take-turned j out work e)
+
+module _ (j : Job) (n w : ℕ) (rules : Rules j) (exact : n ≡ rowBytes (j .plan .target .width)) (room : workValues (j .plan .target .width) ≤ w) where
+  past-take : {b : ℕ} → firstOf (refusedIf (not (lawful j)) InvalidRecord) (firstOf (refusedIf (not (eqb n (rowBytes (j .plan .target .width)))) OutputLength) (firstOf (shortWork (j .plan) w) b)) ≡ b
+  past-take =
+      first-passes _ _ (lawful-good j rules) ∙ first-passes _ _ (let q : refusedIf (not (eqb n (rowBytes (j .plan .target .width)))) OutputLength ≡ 0 = simp (eq-eqb n (rowBytes (j .plan .target .width)) exact) in q)
+      ∙ first-passes _ _ (room-good (j .plan) w room)
+
+  pub take-goes : j .taken < R (j .plan) (j .accepted) → takeNumber j n w ≡ 0
+  unfolding takeNumber
+  take-goes a = past-take ∙ refused-no _ NoneReady (lt-leb (R (j .plan) (j .accepted)) (j .taken) a)
+
+  pub take-none : R (j .plan) (j .accepted) ≤ j .taken → takeNumber j n w ≡ number NoneReady
+  unfolding takeNumber
+  take-none a = past-take ∙ refused-yes _ NoneReady (le-leb (R (j .plan) (j .accepted)) (j .taken) a)

@@ -1,0 +1,363 @@
+// The job (document 01, "The job"; the Rust: Rescaler and rescale_plane of geometry.rs): a record by value that every call takes and hands back.
+// The caller lends the rows, the work values and the output row. Fields are public: a record that meets the rules counts, whoever filled it.
+use pictures::window;
+use pixels::Checked;
+use pixels::Dimensions;
+use pixels::PixelLayout;
+use pixels::Rect;
+use pixels::Refusal;
+use pixels::check_sizes;
+use rows::Restored;
+use rows::add_halves;
+use rows::import_row;
+use rows_out::restore_row;
+use rows_out::scale_row;
+use schedule::rows_by;
+use schedule::used_rows;
+ghost use mathlib.Core.Path.{_≡_};
+ghost use mathlib.Core.Bool.{cond, _||_};
+ghost use mathlib.Core.List.{_++_};
+ghost use Prim.Native.Nat.{_-_, _≤_, min};
+ghost use lib.Dec.{leb};
+ghost use lib.ListN.{length, drop, replicate};
+ghost use Rattle.pixels.specs.Sizes.{rowBytes, halfValues, workValues, Fits};
+ghost use Rattle.rows.specs.WorkRows.{halfOf};
+ghost use Rattle.rows.specs.Restoring.{restoredFlag};
+ghost use Rattle.job.specs.Answers.{startedNumber, startedJob, offeredNumber, offeredRows, offeredJob, takenNumber, takenJob};
+ghost use Rattle.job.specs.Record.{R, planOf, fresh, lawful, readyOf, Rules};
+ghost use Rattle.job.specs.Calls.{startNumber, startWork, lentRows, rowAccepted, fed, count, offerNumber, offerRows, offerJob, offerWork, takeNumber, takeJob, takeOut, takeWork};
+
+// What does not change in a job.
+pub struct Plan {
+    pub source: Dimensions,
+    pub layout: PixelLayout,
+    pub crop: Rect,
+    pub target: Dimensions,
+}
+
+// The record: the plan, source rows accepted, preview rows taken, and whether a taken row had an alpha byte other than 255.
+pub struct Job {
+    pub plan: Plan,
+    pub accepted: u32,
+    pub taken: u32,
+    pub flag: bool,
+}
+
+// A fresh job, or why there is none.
+pub enum Started {
+    Fresh { job: Job },
+    Refused { why: Refusal },
+}
+
+// How many of the rows lent were accepted, or why none; and the next record.
+pub enum Offered {
+    Accepted { rows: u32, job: Job },
+    Refused { why: Refusal, job: Job },
+}
+
+// A row was written, or why not; and the next record.
+pub enum Taken {
+    Wrote { job: Job },
+    Refused { why: Refusal, job: Job },
+}
+
+// ---- numbers
+
+// R(k)
+fn made(p: Plan, accepted: u32) -> u64
+    ensures { λ r. ⌜ r ≡ R p accepted ⌝ }
+{
+    rows_by(p.crop.y, p.crop.height, p.target.height, accepted)
+}
+
+fn less_one(k: u32) -> u32
+    ensures { λ r. ⌜ r ≡ k - 1 ⌝ }
+{
+    if k == 0 {
+        return 0;
+    }
+    k - 1
+}
+
+// The rows lent or those that the source has left, whichever are fewer; n is the number of bytes lent.
+fn most_rows(j: Job, n: usize) -> u32
+    requires { ⌜ Rules j ⌝ }
+    ensures { λ r. ⌜ r ≡ min (lentRows (j .plan) n) (j .plan .source .height - j .accepted) ⌝ }
+{
+    let lent = n / (4 * j.plan.source.width as usize);
+    let left = j.plan.source.height - j.accepted;
+    if lent < left as usize {
+        return lent as u32;
+    }
+    left
+}
+
+// ---- a row comes in
+
+// Where in the work rows the values of crop row c go.
+fn half_for(p: Plan, c: u32) -> usize
+    ensures { λ r. ⌜ r ≡ cond (leb (p .target .height) (p .crop .height)) (halfValues (p .target .width)) (halfOf (halfValues (p .target .width)) c) ⌝ }
+{
+    let w = 4 * p.target.width as usize;
+    if p.target.height <= p.crop.height {
+        return w;
+    }
+    if c % 2 == 0 {
+        return w;
+    }
+    0
+}
+
+// Source row s. Its crop window is a part of the row as lent; the layer below refuses none of these calls.
+fn row_in(p: Plan, row: &[u8], s: u32, work: &mut [u32])
+    requires { ⌜ Fits (p .source) (p .crop) (p .target) × (length (now row) ≡ rowBytes (p .source .width)) × (workValues (p .target .width) ≤ length (now work)) ⌝ }
+    ensures { λ _. ⌜ now (work .exit) ≡ rowAccepted p (now (row .entry)) s (now (work .entry)) ⌝ }
+{
+    if s < p.crop.y {
+        return;
+    }
+    let c = s - p.crop.y;
+    if p.crop.height <= c {
+        return;
+    }
+    let at = half_for(p, c);
+    let part = window(row, p.crop.x, p.crop.width);
+    let layout = p.layout;
+    import_row(layout, p.crop.width, p.target.width, part, &mut work[at..]);
+    if p.crop.height < p.target.height {
+        return;
+    }
+    add_halves(p.target.width, work);
+}
+
+// The rows of an offer that passed its tests, one after another: "stops at the first row that makes an output row ready, at the last offered or at
+// the source's last".
+fn accept(j: Job, rows: &[u8], work: &mut [u32]) -> u32
+    requires { ⌜ offerNumber j (length (now rows)) (length (now work)) ≡ 0 ⌝ }
+    ensures rows { λ r. ⌜ r ≡ count j (length (now (rows .entry))) ⌝ }
+    ensures work { λ _. ⌜ now (work .exit) ≡ fed (j .plan) (now (rows .entry)) (j .accepted) (count j (length (now (rows .entry)))) (now (work .entry)) ⌝ }
+{
+    let most = most_rows(j, rows.len());
+    let stride = 4 * j.plan.source.width as usize;
+    let mut i: u32 = 0;
+    let n = loop {
+        let at = stride * i as usize;
+        row_in(j.plan, &rows[at..at + stride], j.accepted + i, work);
+        i += 1;
+        if i == most {
+            break i;
+        }
+        if (j.taken as u64) < made(j.plan, j.accepted + i) {
+            break i;
+        }
+    };
+    n
+}
+
+// ---- a row goes out
+
+// The flag so far, joined by that of the row just restored.
+fn flag_after(flag: bool, restored: Restored) -> bool
+    ensures { λ r. ⌜ r ≡ (flag || restoredFlag restored) ⌝ }
+{
+    if flag {
+        return true;
+    }
+    match restored {
+        Restored::Flag(f) => f,
+        Restored::Refused(_) => false,
+    }
+}
+
+// ---- the calls
+
+fn clear(work: &mut [u32], n: usize)
+    requires { ⌜ n ≤ length (now work) ⌝ }
+    ensures { λ _. ⌜ now (work .exit) ≡ replicate n 0 ++ drop n (now (work .entry)) ⌝ }
+{
+    let mut i: usize = 0;
+    while i < n {
+        work[i] = 0;
+        i += 1;
+    }
+}
+
+// A fresh job, and both halves of the work rows cleared.
+// Rules out: a half left as it was; a value beyond the halves touched; 5 told before 1 or 2.
+pub fn start(
+    source: Dimensions,
+    layout: PixelLayout,
+    crop: Rect,
+    target: Dimensions,
+    work: &mut [u32],
+) -> Started
+    ensures number { λ r. ⌜ startedNumber r ≡ startNumber (planOf source layout crop target) (length (now (work .entry))) ⌝ }
+    ensures job { λ r. ⌜ startedJob (fresh (planOf source layout crop target)) r ≡ fresh (planOf source layout crop target) ⌝ }
+    ensures work { λ _. ⌜ now (work .exit) ≡ startWork (planOf source layout crop target) (now (work .entry)) ⌝ }
+{
+    let checked = check_sizes(source, crop, target);
+    match checked {
+        Checked::Refused(why) => {
+            return Started::Refused { why: why };
+        }
+        Checked::Fit => {}
+    }
+    let n = 8 * target.width as usize;
+    if work.len() < n {
+        return Started::Refused {
+            why: Refusal::WorkLength,
+        };
+    }
+    clear(work, n);
+    Started::Fresh {
+        job: Job {
+            plan: Plan {
+                source: source,
+                layout: layout,
+                crop: crop,
+                target: target,
+            },
+            accepted: 0,
+            taken: 0,
+            flag: false,
+        },
+    }
+}
+
+impl Job {
+    // The record rules. Rules out: a flag before the first row taken; a count above what the rows accepted make.
+    pub fn check(self) -> bool
+        ensures { λ r. ⌜ r ≡ lawful self ⌝ }
+    {
+        let p = self.plan;
+        let checked = check_sizes(p.source, p.crop, p.target);
+        match checked {
+            Checked::Refused(_) => {
+                return false;
+            }
+            Checked::Fit => {}
+        }
+        if p.source.height < self.accepted {
+            return false;
+        }
+        if (self.taken as u64) < made(p, less_one(self.accepted)) {
+            return false;
+        }
+        if made(p, self.accepted) < self.taken as u64 {
+            return false;
+        }
+        if self.taken != 0 {
+            return true;
+        }
+        !self.flag
+    }
+
+    // The output rows that are ready; none of a record that breaks the rules.
+    // Rules out: rows counted that were taken; rows that the next source row makes.
+    pub fn ready(self) -> u32
+        ensures { λ r. ⌜ r ≡ readyOf self ⌝ }
+    {
+        if !self.check() {
+            return 0;
+        }
+        (made(self.plan, self.accepted) - self.taken as u64) as u32
+    }
+
+    // Offers one or more whole source rows; returns how many were accepted.
+    // Rules out: an offer that goes on past the first row that makes an output row ready; a count that was not fed; 8 told while a row is ready.
+    pub fn offer(mut self, rows: &[u8], work: &mut [u32]) -> Offered
+        ensures number { λ r. ⌜ offeredNumber r ≡ offerNumber self (length (now (rows .entry))) (length (now (work .entry))) ⌝ }
+        ensures rows { λ r. ⌜ offeredRows r ≡ offerRows self (length (now (rows .entry))) (length (now (work .entry))) ⌝ }
+        ensures job { λ r. ⌜ offeredJob r ≡ offerJob self (length (now (rows .entry))) (length (now (work .entry))) ⌝ }
+        ensures work { λ _. ⌜ now (work .exit) ≡ offerWork self (now (rows .entry)) (now (work .entry)) ⌝ }
+    {
+        if !self.check() {
+            return Offered::Refused {
+                why: Refusal::InvalidRecord,
+                job: self,
+            };
+        }
+        if rows.len() == 0 {
+            return Offered::Refused {
+                why: Refusal::PixelBufferMismatch,
+                job: self,
+            };
+        }
+        if rows.len() % (4 * self.plan.source.width as usize) != 0 {
+            return Offered::Refused {
+                why: Refusal::PixelBufferMismatch,
+                job: self,
+            };
+        }
+        if work.len() < 8 * self.plan.target.width as usize {
+            return Offered::Refused {
+                why: Refusal::WorkLength,
+                job: self,
+            };
+        }
+        let k = self.accepted;
+        if (self.taken as u64) < made(self.plan, k) {
+            return Offered::Refused {
+                why: Refusal::RowReady,
+                job: self,
+            };
+        }
+        if self.plan.source.height <= k {
+            return Offered::Refused {
+                why: Refusal::AllAccepted,
+                job: self,
+            };
+        }
+        let n = accept(self, rows, work);
+        self.accepted = k + n;
+        Offered::Accepted { rows: n, job: self }
+    }
+
+    // Takes the next output row; its alpha flag joins the record's.
+    // Rules out: a row written twice or not at all; t advanced by a call that was turned away; the flag of an opaque row set.
+    pub fn take(mut self, out: &mut [u8], work: &mut [u32]) -> Taken
+        ensures number { λ r. ⌜ takenNumber r ≡ takeNumber self (length (now (out .entry))) (length (now (work .entry))) ⌝ }
+        ensures job { λ r. ⌜ takenJob r ≡ takeJob self (length (now (out .entry))) (now (work .entry)) ⌝ }
+        ensures out { λ _. ⌜ now (out .exit) ≡ takeOut self (now (out .entry)) (now (work .entry)) ⌝ }
+        ensures work { λ _. ⌜ now (work .exit) ≡ takeWork self (length (now (out .entry))) (now (work .entry)) ⌝ }
+    {
+        if !self.check() {
+            return Taken::Refused {
+                why: Refusal::InvalidRecord,
+                job: self,
+            };
+        }
+        let p = self.plan;
+        if out.len() != 4 * p.target.width as usize {
+            return Taken::Refused {
+                why: Refusal::OutputLength,
+                job: self,
+            };
+        }
+        if work.len() < 8 * p.target.width as usize {
+            return Taken::Refused {
+                why: Refusal::WorkLength,
+                job: self,
+            };
+        }
+        let t = self.taken;
+        if made(p, self.accepted) <= t as u64 {
+            return Taken::Refused {
+                why: Refusal::NoneReady,
+                job: self,
+            };
+        }
+        let u = used_rows(p.crop.y, p.crop.height, self.accepted);
+        let crop = Dimensions {
+            width: p.crop.width,
+            height: p.crop.height,
+        };
+        scale_row(crop, p.target, u, t, out, work);
+        let layout = p.layout;
+        let restored = restore_row(layout, p.target.width, out);
+        let flag = flag_after(self.flag, restored);
+        self.taken = t + 1;
+        self.flag = flag;
+        Taken::Wrote { job: self }
+    }
+}

@@ -1,0 +1,4 @@
+pub mod Going
+pub mod Ending
+pub mod Turning
+pub mod Answers

@@ -1,0 +1,175 @@
+// Whole pictures (document 01, "Lanes" and "Beside the job"; the Rust: Image::new's flag, Image::apply_alpha_plane, and crop of geometry.rs).
+use pixels::Checked;
+use pixels::Dimensions;
+use pixels::Flagged;
+use pixels::PixelLayout;
+use pixels::Rect;
+use pixels::Refusal;
+use pixels::bad_size;
+use pixels::check_sizes;
+ghost use mathlib.Core.Path.{_≡_};
+ghost use mathlib.Core.List.{_++_};
+ghost use Prim.Native.Nat.{_+_, _*_, _/_, _≤_};
+ghost use lib.ListN.{length, take, drop};
+ghost use Rattle.pixels.specs.Refusals.{checkedNumber, flaggedNumber, flaggedFlag, flagIf, bufferIf};
+ghost use Rattle.pixels.specs.Sizes.{lanes, pictureBytes, Fits};
+ghost use Rattle.pixels.specs.Picture.{hasAlpha, pictureNumber, windowOf, pictureRow, cropped, cropNumber, withAlpha, alphaNumber};
+
+// The alpha flag of packed pixels; bytes after the last whole pixel are ignored. Rules out: a flag that looks at a colour; one that stops a pixel short.
+pub fn has_alpha(layout: PixelLayout, bytes: &[u8]) -> bool
+    ensures { λ r. ⌜ r ≡ hasAlpha layout (now (bytes .entry)) (length (now (bytes .entry)) / lanes) ⌝ }
+{
+    let a = layout.alpha_byte_offset();
+    let n = bytes.len() / 4;
+    let mut i = 0;
+    while i < n {
+        let at = 4 * i + a;
+        if bytes[at] != 255 {
+            return true;
+        }
+        i += 1;
+    }
+    false
+}
+
+// Numbers 1 and 3, in that order, of a picture of the size in n bytes.
+fn check_picture(size: Dimensions, n: usize) -> Checked
+    ensures { λ r. ⌜ checkedNumber r ≡ pictureNumber size n ⌝ }
+{
+    if bad_size(size) {
+        return Checked::Refused(Refusal::InvalidDimensions);
+    }
+    if n as u64 != 4 * size.pixel_count() {
+        return Checked::Refused(Refusal::PixelBufferMismatch);
+    }
+    Checked::Fit
+}
+
+// The flag of a picture, as the Rust's Image::new derives it. Rules out: 3 told before 1; the flag turned round.
+pub fn picture_has_alpha(size: Dimensions, layout: PixelLayout, pixels: &[u8]) -> Flagged
+    ensures number { λ r. ⌜ flaggedNumber r ≡ pictureNumber size (length (now (pixels .entry))) ⌝ }
+    ensures flag { λ r. ⌜ flaggedFlag r ≡ flagIf (pictureNumber size (length (now (pixels .entry)))) (hasAlpha layout (now (pixels .entry)) (size .width * size .height)) ⌝ }
+{
+    let checked = check_picture(size, pixels.len());
+    match checked {
+        Checked::Refused(why) => {
+            return Flagged::Refused(why);
+        }
+        Checked::Fit => {}
+    }
+    let flag = has_alpha(layout, pixels);
+    Flagged::Flag(flag)
+}
+
+// The crop window of a row: width pixels from pixel x on, a part of that same row; the empty part where they do not lie in it.
+// Rules out: a window one to the left; one cut off at the row's end.
+pub fn window(row: &[u8], x: u32, width: u32) -> &[u8]
+    ensures { λ r. ⌜ now r ≡ windowOf (now (row .entry)) x width ⌝ }
+{
+    let at = 4 * (x as usize);
+    let len = 4 * (width as usize);
+    if row.len() < at {
+        return &row[0..0];
+    }
+    if row.len() - at < len {
+        return &row[0..0];
+    }
+    &row[at..at + len]
+}
+
+// Copies src into out from at on.
+fn copy_at(out: &mut [u8], at: usize, src: &[u8])
+    requires { ⌜ at + length (now src) ≤ length (now out) ⌝ }
+    ensures { λ _. ⌜ now (out .exit) ≡ take at (now (out .entry)) ++ (now (src .entry) ++ drop (at + length (now (src .entry))) (now (out .entry))) ⌝ }
+{
+    let mut i = 0;
+    while i < src.len() {
+        out[at + i] = src[i];
+        i += 1;
+    }
+}
+
+// Copies the rows of a crop that fits, each the window of its source row.
+fn crop_into(source: Dimensions, rect: Rect, pixels: &[u8], out: &mut [u8])
+    requires { ⌜ Fits source rect source × (length (now pixels) ≡ pictureBytes (source .width) (source .height)) × (length (now out) ≡ pictureBytes (rect .width) (rect .height)) ⌝ }
+    ensures { λ _. ⌜ now (out .exit) ≡ cropped source rect (now (pixels .entry)) ⌝ }
+{
+    let h = rect.height as usize;
+    let mut i = 0;
+    while i < h {
+        let w = 4 * (source.width as usize);
+        let at = w * (rect.y as usize + i);
+        let to = 4 * (rect.width as usize) * i;
+        copy_at(out, to, window(&pixels[at..at + w], rect.x, rect.width));
+        i += 1;
+    }
+}
+
+// The Rust's crop. Rules out: rows of the crop from the source's top; a buffer written although the call was refused; the source's flag kept.
+pub fn crop(
+    source: Dimensions,
+    layout: PixelLayout,
+    pixels: &[u8],
+    rect: Rect,
+    out: &mut [u8],
+) -> Flagged
+    ensures number { λ r. ⌜ flaggedNumber r ≡ cropNumber source rect (length (now (pixels .entry))) (length (now (out .entry))) ⌝ }
+    ensures flag { λ r. ⌜ flaggedFlag r ≡ flagIf (cropNumber source rect (length (now (pixels .entry))) (length (now (out .entry)))) (hasAlpha layout (cropped source rect (now (pixels .entry))) (rect .width * rect .height)) ⌝ }
+    ensures out { λ _. ⌜ now (out .exit) ≡ bufferIf (cropNumber source rect (length (now (pixels .entry))) (length (now (out .entry)))) (cropped source rect (now (pixels .entry))) (now (out .entry)) ⌝ }
+{
+    let checked = check_sizes(source, rect, source);
+    match checked {
+        Checked::Refused(why) => {
+            return Flagged::Refused(why);
+        }
+        Checked::Fit => {}
+    }
+    if pixels.len() as u64 != 4 * source.pixel_count() {
+        return Flagged::Refused(Refusal::PixelBufferMismatch);
+    }
+    if out.len() as u64 != 4 * rect.width as u64 * rect.height as u64 {
+        return Flagged::Refused(Refusal::OutputLength);
+    }
+    crop_into(source, rect, pixels, out);
+    Flagged::Flag(has_alpha(layout, out))
+}
+
+// Writes the plane's bytes to the alpha places.
+fn put_alpha(layout: PixelLayout, pixels: &mut [u8], plane: &[u8])
+    requires { ⌜ length (now pixels) ≡ lanes * length (now plane) ⌝ }
+    ensures { λ _. ⌜ now (pixels .exit) ≡ withAlpha layout (now (pixels .entry)) (now (plane .entry)) ⌝ }
+{
+    let alpha = layout.alpha_byte_offset();
+    let mut i = 0;
+    while i < plane.len() {
+        let to = 4 * i + alpha;
+        pixels[to] = plane[i];
+        i += 1;
+    }
+}
+
+// The Rust's apply_alpha_plane: writes only alpha bytes, and returns the flag of the picture so made.
+// Rules out: a colour written; the flag of the pixels before; 3 told before 1.
+pub fn apply_alpha_plane(
+    size: Dimensions,
+    layout: PixelLayout,
+    pixels: &mut [u8],
+    plane: &[u8],
+) -> Flagged
+    ensures number { λ r. ⌜ flaggedNumber r ≡ alphaNumber size (length (now (pixels .entry))) (length (now (plane .entry))) ⌝ }
+    ensures flag { λ r. ⌜ flaggedFlag r ≡ flagIf (alphaNumber size (length (now (pixels .entry))) (length (now (plane .entry)))) (hasAlpha layout (withAlpha layout (now (pixels .entry)) (now (plane .entry))) (size .width * size .height)) ⌝ }
+    ensures pixels { λ _. ⌜ now (pixels .exit) ≡ bufferIf (alphaNumber size (length (now (pixels .entry))) (length (now (plane .entry)))) (withAlpha layout (now (pixels .entry)) (now (plane .entry))) (now (pixels .entry)) ⌝ }
+{
+    let checked = check_picture(size, pixels.len());
+    match checked {
+        Checked::Refused(why) => {
+            return Flagged::Refused(why);
+        }
+        Checked::Fit => {}
+    }
+    if plane.len() as u64 != size.pixel_count() {
+        return Flagged::Refused(Refusal::PixelBufferMismatch);
+    }
+    put_alpha(layout, pixels, plane);
+    Flagged::Flag(has_alpha(layout, pixels))
+}

@@ -1,0 +1,186 @@
+-- Sizes and crop pass numbers 1 and 2 exactly if the facts of `Fits` hold: both ways. Assumes nothing.
+use Prim.Native.Nat.{ℕ, _+_, _*_, _≤_, _<_, _^_}
+use mathlib.Core.Path.{_≡_, refl, ap, ap₂, _∙_}
+use mathlib.Core.Bool.{Bool, true, false, cond, _||_, or-true, true≢false}
+use native.Mathlib.Nat.{le-trans, mul-le-mul, mul-le-mul-left}
+use native.Mathlib.Omega.{arith}
+use lib.Dec.{eqb, ltb}
+use borrow.Author.Tests.{eq-eqb, ne-eqb, lt-ltb, le-ltb, eqb-false, ltb-false}
+use Rattle.pixels.specs.declared.Dimensions.{Dimensions}
+use Rattle.pixels.specs.declared.Rect.{Rect}
+use Rattle.pixels.specs.declared.Refusal.the-variants.{InvalidDimensions, CropOutOfBounds}
+use Rattle.pixels.specs.Refusals.{refusedIf, firstOf, sizeIf}
+use Rattle.pixels.specs.Sizes.{maxSide, badSide, badSize, emptyCrop, cropBeyond, sizeNumber, sizesNumber, Side, Fits, sizeOf, derivedSide, scaledWidth, scaledHeight, scaledSize, scaledNumber}
+use Rattle.pixels.proofs.Numbers.{sized-accepted}
+use Rattle.arithmetic.specs.Quotient.{ceil}
+use Rattle.arithmetic.proofs.Quotients.{ceil-le}
+
+-- ---- a disjunction that is false
+or-false-parts : (a b : Bool) → (a || b) ≡ false → (a ≡ false) × (b ≡ false)
+or-false-parts false b e = (refl, e)
+or-false-parts true b e = absurd (true≢false e)
+
+-- no cause applies
+none : (a b c d : Bool) → firstOf (refusedIf (a || b || c) InvalidDimensions) (refusedIf d CropOutOfBounds) ≡ 0 → (a ≡ false) × (b ≡ false) × (c ≡ false) × (d ≡ false)
+none false false false false e = (refl, refl, refl, refl)
+none false false false true e = absurd (omega arith)
+none false false true d e = absurd (omega arith)
+none false true c d e = absurd (omega arith)
+none true b c d e = absurd (omega arith)
+
+-- ---- a side, a size
+pub side-of : (s : ℕ) → badSide s ≡ false → Side s
+unfolding badSide
+side-of s e =
+    record {
+      some = omega (arith, eqb-false s 0 (or-false-parts (eqb s 0) (ltb maxSide s) e .0));
+      most = ltb-false maxSide s (or-false-parts (eqb s 0) (ltb maxSide s) e .1);
+    }
+
+pub side-good : (s : ℕ) → Side s → badSide s ≡ false
+unfolding badSide
+side-good s h = simp (ne-eqb s 0 (λ e. omega arith), le-ltb maxSide s (h .most))
+
+pub size-of : (d : Dimensions) → badSize d ≡ false → Side (d .width) × Side (d .height)
+unfolding badSize
+size-of d e =
+    let p = or-false-parts (badSide (d .width)) (badSide (d .height)) e in
+    (side-of (d .width) (p .0), side-of (d .height) (p .1))
+
+pub size-good : (d : Dimensions) → Side (d .width) → Side (d .height) → badSize d ≡ false
+unfolding badSize
+size-good d w h = simp (side-good (d .width) w, side-good (d .height) h)
+
+pub size-wide : (d : Dimensions) → badSide (d .width) ≡ true → badSize d ≡ true
+unfolding badSize
+size-wide d e = simp e
+
+pub size-high : (d : Dimensions) → badSide (d .height) ≡ true → badSize d ≡ true
+unfolding badSize
+size-high d e = simp (e, or-true)
+
+-- ---- an empty crop, one beyond the source
+pub empty-width : (r : Rect) → r .width ≡ 0 → emptyCrop r ≡ true
+unfolding emptyCrop
+empty-width r e = simp (eq-eqb (r .width) 0 e)
+
+pub empty-height : (r : Rect) → r .height ≡ 0 → emptyCrop r ≡ true
+unfolding emptyCrop
+empty-height r e = simp (eq-eqb (r .height) 0 e, or-true)
+
+pub not-empty : (r : Rect) → 1 ≤ r .width → 1 ≤ r .height → emptyCrop r ≡ false
+unfolding emptyCrop
+not-empty r w h = simp (ne-eqb (r .width) 0 (λ e. omega arith), ne-eqb (r .height) 0 (λ e. omega arith))
+
+pub beyond-right : (r : Rect) (d : Dimensions) → d .width < r .x + r .width → cropBeyond r d ≡ true
+unfolding cropBeyond
+beyond-right r d h = simp (lt-ltb _ _ h)
+
+pub beyond-bottom : (r : Rect) (d : Dimensions) → d .height < r .y + r .height → cropBeyond r d ≡ true
+unfolding cropBeyond
+beyond-bottom r d h = simp (lt-ltb _ _ h, or-true)
+
+pub within : (r : Rect) (d : Dimensions) → r .x + r .width ≤ d .width → r .y + r .height ≤ d .height → cropBeyond r d ≡ false
+unfolding cropBeyond
+within r d w h = simp (le-ltb _ _ w, le-ltb _ _ h)
+
+-- ---- the number of one size
+pub size-bad : (d : Dimensions) → badSize d ≡ true → sizeNumber d ≡ 1
+unfolding sizeNumber
+size-bad d e = simp e
+
+pub size-passes : (d : Dimensions) → badSize d ≡ false → sizeNumber d ≡ 0
+unfolding sizeNumber
+size-passes d e = simp e
+
+pub size-sides : (d : Dimensions) → sizeNumber d ≡ 0 → badSize d ≡ false
+unfolding sizeNumber
+size-sides d e = go (badSize d) e
+  where
+    go : (b : Bool) → refusedIf b InvalidDimensions ≡ 0 → b ≡ false
+    go false e = refl
+    go true e = absurd (omega arith)
+
+-- ---- the numbers of source, crop and target
+module _ (source : Dimensions) (crop : Rect) (target : Dimensions) where
+  pub sizes-source : badSize source ≡ true → sizesNumber source crop target ≡ 1
+  unfolding sizesNumber
+  sizes-source e = simp e
+
+  pub sizes-target : badSize target ≡ true → sizesNumber source crop target ≡ 1
+  unfolding sizesNumber
+  sizes-target e = simp (e, or-true)
+
+  pub sizes-empty : emptyCrop crop ≡ true → sizesNumber source crop target ≡ 1
+  unfolding sizesNumber
+  sizes-empty e = simp (e, or-true)
+
+  pub sizes-beyond : badSize source ≡ false → badSize target ≡ false → emptyCrop crop ≡ false → cropBeyond crop source ≡ true → sizesNumber source crop target ≡ 2
+  unfolding sizesNumber
+  sizes-beyond a b c d = simp (a, b, c, d)
+
+  pub sizes-pass : badSize source ≡ false → badSize target ≡ false → emptyCrop crop ≡ false → cropBeyond crop source ≡ false → sizesNumber source crop target ≡ 0
+  unfolding sizesNumber
+  sizes-pass a b c d = simp (a, b, c, d)
+
+  pub fits-good : Fits source crop target → sizesNumber source crop target ≡ 0
+  fits-good f =
+      sizes-pass (size-good source (f .source-width) (f .source-height)) (size-good target (f .target-width) (f .target-height))
+      (not-empty crop (f .crop-width) (f .crop-height)) (within crop source (f .right) (f .bottom))
+
+  pub fits-of : sizesNumber source crop target ≡ 0 → Fits source crop target
+  unfolding sizesNumber emptyCrop cropBeyond
+  fits-of e =
+      let p = none (badSize source) (badSize target) (emptyCrop crop) (cropBeyond crop source) e in
+      let s = size-of source (p .0) in
+      let t = size-of target (p .1) in
+      let h = or-false-parts (eqb (crop .width) 0) (eqb (crop .height) 0) (p .2) in
+      let b = or-false-parts (ltb (source .width) (crop .x + crop .width)) (ltb (source .height) (crop .y + crop .height)) (p .3) in
+      record {
+        source-width = s .0;
+        source-height = s .1;
+        target-width = t .0;
+        target-height = t .1;
+        crop-width = omega (arith, eqb-false (crop .width) 0 (h .0));
+        crop-height = omega (arith, eqb-false (crop .height) 0 (h .1));
+        right = ltb-false _ _ (b .0);
+        bottom = ltb-false _ _ (b .1);
+      }
+
+-- ---- scaled sizes
+module _ (source : Dimensions) (width height : ℕ) where
+  pub scaled-source : badSize source ≡ true → scaledNumber source width height ≡ 1
+  unfolding scaledNumber
+  scaled-source e = simp (size-bad source e)
+
+  module _ (good : badSize source ≡ false) (w : ℕ) (is-w : w ≡ scaledWidth source width height) where
+    scaled-as : scaledNumber source width height ≡ sizeNumber (scaledSize source width height)
+    unfolding scaledNumber
+    scaled-as = simp (size-passes source good)
+
+    pub scaled-wide : badSide w ≡ true → scaledNumber source width height ≡ 1
+    scaled-wide e = scaled-as ∙ size-bad (scaledSize source width height) (size-wide _ (rw is-w at e))
+
+    module _ (h : ℕ) (is-h : h ≡ derivedSide (source .height) (source .width) height w) where
+      same-height : h ≡ scaledHeight source width height
+      same-height = is-h ∙ ap (derivedSide (source .height) (source .width) height) is-w
+
+      pub scaled-high : badSide h ≡ true → scaledNumber source width height ≡ 1
+      scaled-high e = scaled-as ∙ size-bad (scaledSize source width height) (size-high _ (rw same-height at e))
+
+      pub scaled-good : badSide w ≡ false → badSide h ≡ false → (0 ≡ scaledNumber source width height) × (sizeOf w h ≡ sizeIf (scaledNumber source width height) (scaledSize source width height))
+      scaled-good e f =
+          let z = scaled-as ∙ size-passes (scaledSize source width height) (size-good _ (side-of _ (rw is-w at e)) (side-of _ (rw same-height at f))) in
+          let p = sized-accepted _ (scaledSize source width height) z in
+          (p .0, ap₂ sizeOf is-w same-height ∙ p .1)
+
+-- a derived side is no larger than the product it is derived from, or than what was asked
+pub derived-most : (own across side other : ℕ) → 1 ≤ across → own ≤ maxSide → other < 2 ^ 32 → side < 2 ^ 32 → derivedSide own across side other ≤ 2 ^ 46
+unfolding derivedSide
+derived-most own across side other pos o h k = go (eqb side 0)
+  where
+    go : (b : Bool) → cond b (ceil (own * other) across) side ≤ 2 ^ 46
+    go true =
+        le-trans (ceil-le across pos (omega (arith, mul-le-mul-left (own * other) pos)))
+        (mul-le-mul {n₁ = own} {m₁ = other} {n₂ = 16384} {m₂ = 4294967296} o (omega arith))
+    go false = omega arith

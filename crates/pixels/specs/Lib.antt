@@ -1,0 +1,5 @@
+pub mod Refusals
+pub mod Sizes
+pub mod Layout
+pub mod Lanes
+pub mod Picture

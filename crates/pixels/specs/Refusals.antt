@@ -1,0 +1,72 @@
+-- Why a call is turned away: document 01's table, the number of each cause, and the number and the values of each answer. Assumes nothing.
+use Prim.Native.Nat.{ℕ}
+use mathlib.Core.Bool.{Bool, false, cond}
+use mathlib.Core.List.{List}
+use lib.Dec.{eqb}
+use Rattle.pixels.specs.declared.Dimensions.{Dimensions}
+use Rattle.pixels.specs.declared.Refusal.{Refusal}
+use Rattle.pixels.specs.declared.Refusal.the-variants.{InvalidDimensions, CropOutOfBounds, PixelBufferMismatch, OutputLength, WorkLength, InvalidRecord, RowReady, AllAccepted, NoneReady}
+use Rattle.pixels.specs.declared.Checked.{Checked}
+use Rattle.pixels.specs.declared.Checked.the-variants as checked
+use Rattle.pixels.specs.declared.Sized.{Sized}
+use Rattle.pixels.specs.declared.Sized.the-variants as sized
+use Rattle.pixels.specs.declared.Flagged.{Flagged}
+use Rattle.pixels.specs.declared.Flagged.the-variants as flagged
+
+-- the column "No." of the table
+abbrev pub number : Refusal → ℕ
+number InvalidDimensions = 1
+number CropOutOfBounds = 2
+number PixelBufferMismatch = 3
+number OutputLength = 4
+number WorkLength = 5
+number InvalidRecord = 6
+number RowReady = 7
+number AllAccepted = 8
+number NoneReady = 9
+
+-- the number of a cause that applies if b, and 0 if not
+abbrev pub refusedIf : Bool → Refusal → ℕ
+refusedIf b why = cond b (number why) 0
+
+-- of two causes in their order, the one that applies first; 0 where neither does
+abbrev pub firstOf : ℕ → ℕ → ℕ
+firstOf a b = cond (eqb a 0) b a
+
+-- ---- answers: the number is 0 where the call was accepted
+abbrev pub checkedNumber : Checked → ℕ
+checkedNumber checked.Fit = 0
+checkedNumber (checked.Refused why) = number why
+
+abbrev pub sizedNumber : Sized → ℕ
+sizedNumber (sized.Size size) = 0
+sizedNumber (sized.Refused why) = number why
+
+-- what a refusal has in place of a size
+abbrev pub noSize : Dimensions
+noSize = record { width = 0; height = 0 }
+
+abbrev pub sizedSize : Sized → Dimensions
+sizedSize (sized.Size size) = size
+sizedSize (sized.Refused why) = noSize
+
+-- the size of an answer with the number n
+abbrev pub sizeIf : ℕ → Dimensions → Dimensions
+sizeIf n size = cond (eqb n 0) size noSize
+
+abbrev pub flaggedNumber : Flagged → ℕ
+flaggedNumber (flagged.Flag flag) = 0
+flaggedNumber (flagged.Refused why) = number why
+
+-- a refusal has no flag: false
+abbrev pub flaggedFlag : Flagged → Bool
+flaggedFlag (flagged.Flag flag) = flag
+flaggedFlag (flagged.Refused why) = false
+
+-- the flag of an answer with the number n
+abbrev pub flagIf : ℕ → Bool → Bool
+flagIf n flag = cond (eqb n 0) flag false
+
+-- a buffer after a call with the number n: what was written, or as it was
+abbrev pub bufferIf : ℕ → List ℕ → List ℕ → List ℕ
+bufferIf n written kept = cond (eqb n 0) written kept

@@ -1,0 +1,97 @@
+-- Sizes and lengths, and the numbers 1 and 2 of document 01's table ("Why a call is turned away"). Assumes nothing.
+use Prim.Native.Nat.{ℕ, _+_, _*_, _≤_}
+use mathlib.Core.Bool.{Bool, cond, _||_}
+use lib.Dec.{eqb, ltb}
+use Rattle.arithmetic.specs.Quotient.{ceil}
+use Rattle.pixels.specs.declared.Dimensions.{Dimensions}
+use Rattle.pixels.specs.declared.Rect.{Rect}
+use Rattle.pixels.specs.declared.Refusal.the-variants.{InvalidDimensions, CropOutOfBounds}
+use Rattle.pixels.specs.Refusals.{refusedIf, firstOf}
+
+-- the largest side
+abbrev pub maxSide : ℕ
+maxSide = 16384
+
+-- the bytes of a pixel, one for each lane
+abbrev pub lanes : ℕ
+lanes = 4
+
+-- the bytes of a row of w pixels
+abbrev pub rowBytes : ℕ → ℕ
+rowBytes w = lanes * w
+
+-- the bytes of w by h pixels: h rows
+abbrev pub pictureBytes : ℕ → ℕ → ℕ
+pictureBytes w h = rowBytes w * h
+
+-- "Work rows are two halves of 4 × m values each"
+abbrev pub halfValues : ℕ → ℕ
+halfValues m = lanes * m
+
+abbrev pub workValues : ℕ → ℕ
+workValues m = 2 * halfValues m
+
+-- "a source or target side is 0 or above 16,384"
+unfoldable pub badSide : ℕ → Bool
+badSide side = eqb side 0 || ltb maxSide side
+
+unfoldable pub badSize : Dimensions → Bool
+badSize size = badSide (size .width) || badSide (size .height)
+
+-- "the crop is empty"
+unfoldable pub emptyCrop : Rect → Bool
+emptyCrop crop = eqb (crop .width) 0 || eqb (crop .height) 0
+
+-- "crop's right or bottom edge beyond the picture"; "Edges are summed without wrapping"
+unfoldable pub cropBeyond : Rect → Dimensions → Bool
+cropBeyond crop size = ltb (size .width) (crop .x + crop .width) || ltb (size .height) (crop .y + crop .height)
+
+-- number 1 of one size, 0 where it passes
+unfoldable pub sizeNumber : Dimensions → ℕ
+sizeNumber size = refusedIf (badSize size) InvalidDimensions
+
+-- numbers 1 and 2 of a source, its crop and a target, 0 where they pass. A crop side above 16,384 is 2, since no source side is.
+unfoldable pub sizesNumber : Dimensions → Rect → Dimensions → ℕ
+sizesNumber source crop target =
+    firstOf (refusedIf (badSize source || badSize target || emptyCrop crop) InvalidDimensions)
+    (refusedIf (cropBeyond crop source) CropOutOfBounds)
+
+-- what passing means: a side from 1 to 16,384; sizes of such sides, a crop that is not empty, its edges within the source
+pub record Side (side : ℕ) : Type 0 where
+  pub some : 1 ≤ side
+  pub most : side ≤ maxSide
+
+pub record Fits (source : Dimensions) (crop : Rect) (target : Dimensions) : Type 0 where
+  pub source-width : Side (source .width)
+  pub source-height : Side (source .height)
+  pub target-width : Side (target .width)
+  pub target-height : Side (target .height)
+  pub crop-width : 1 ≤ crop .width
+  pub crop-height : 1 ≤ crop .height
+  pub right : crop .x + crop .width ≤ source .width
+  pub bottom : crop .y + crop .height ≤ source .height
+
+abbrev pub sizeOf : ℕ → ℕ → Dimensions
+sizeOf w h = record { width = w; height = h }
+
+abbrev pub rectOf : ℕ → ℕ → ℕ → ℕ → Rect
+rectOf x y w h = record { x = x; y = y; width = w; height = h }
+
+-- a side as asked; one of 0 is derived from the other, in the ratio of the source's own side and the side across: "ceil(w×height/h)"
+unfoldable pub derivedSide : ℕ → ℕ → ℕ → ℕ → ℕ
+derivedSide own across side other = cond (eqb side 0) (ceil (own * other) across) side
+
+-- "width 0 becomes ceil(w×height/h), then height 0 becomes ceil(h×width/w)"
+abbrev pub scaledWidth : Dimensions → ℕ → ℕ → ℕ
+scaledWidth source width height = derivedSide (source .width) (source .height) width height
+
+abbrev pub scaledHeight : Dimensions → ℕ → ℕ → ℕ
+scaledHeight source width height =
+    derivedSide (source .height) (source .width) height (scaledWidth source width height)
+
+abbrev pub scaledSize : Dimensions → ℕ → ℕ → Dimensions
+scaledSize source width height = sizeOf (scaledWidth source width height) (scaledHeight source width height)
+
+-- "both 0, or a side above 16,384, gives 1", of the source too; both 0 gives sides of 0
+unfoldable pub scaledNumber : Dimensions → ℕ → ℕ → ℕ
+scaledNumber source width height = firstOf (sizeNumber source) (sizeNumber (scaledSize source width height))

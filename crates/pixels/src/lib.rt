@@ -1,0 +1,78 @@
+// Pixels: sizes, layouts and why a call is turned away (document 01, "Lanes", "Beside the job", "Why a call is turned away"; the Rust: image.rs and the
+// crop of geometry.rs). Every function answers for all arguments. Fields are public: a value counts, whoever filled it, and is tested where it is used.
+pub use sizes::bad_size;
+pub use sizes::check_sizes;
+
+mod layout;
+mod sizes;
+
+// Largest side of a picture, in pixels (the Rust's name): a bitstream stores a side less one in 14 bits.
+pub const MAX_DIMENSION: u32 = 16384;
+
+pub struct Dimensions {
+    pub width: u32,
+    pub height: u32,
+}
+
+// A crop: its corner and its size, in pixels of the source.
+pub struct Rect {
+    pub x: u32,
+    pub y: u32,
+    pub width: u32,
+    pub height: u32,
+}
+
+// The order of a pixel's bytes.
+pub enum PixelLayout {
+    Rgba8,
+    Argb8,
+    Bgra8,
+}
+
+// Why a call is turned away, in the order of document 01's table; specs/Refusals.antt has the numbers.
+pub enum Refusal {
+    // a source or target side is 0 or above MAX_DIMENSION, or the crop is empty
+    InvalidDimensions,
+    // the crop's right or bottom edge lies beyond the picture
+    CropOutOfBounds,
+    // pixels, alpha plane or offered rows of another length
+    PixelBufferMismatch,
+    // an output buffer not of the exact length
+    OutputLength,
+    // too few work values
+    WorkLength,
+    // a record that breaks the rules
+    InvalidRecord,
+    // an offer while an output row is ready
+    RowReady,
+    // an offer with all source rows accepted
+    AllAccepted,
+    // a take with none ready
+    NoneReady,
+}
+
+// Whether what was asked may be done, or why not.
+pub enum Checked {
+    Fit,
+    Refused(Refusal),
+}
+
+// A size, or why there is none.
+pub enum Sized {
+    Size(Dimensions),
+    Refused(Refusal),
+}
+
+// The alpha flag of a picture, or why there is none.
+pub enum Flagged {
+    Flag(bool),
+    Refused(Refusal),
+}
+
+// Where a layout has the scaler's lanes: byte offsets within a pixel.
+pub struct Places {
+    pub b: usize,
+    pub g: usize,
+    pub r: usize,
+    pub a: usize,
+}

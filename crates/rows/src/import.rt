@@ -1,0 +1,416 @@
+// A row comes in (document 01; the Rust: Rescaler::import_row of geometry.rs, libwebp's WebPRescalerImportRowShrink_C and
+// WebPRescalerImportRowExpand_C): matted as its bytes are read, the four lanes at once. Work values wrap.
+use crate::Done;
+use arithmetic::frac;
+use arithmetic::matte;
+use arithmetic::mult_fix;
+use arithmetic::wrapping_mul;
+use pixels::MAX_DIMENSION;
+use pixels::PixelLayout;
+use pixels::Places;
+use pixels::Refusal;
+use std::num::wrapping_add_u32;
+use std::num::wrapping_sub_u32;
+ghost use mathlib.Core.Path.{_≡_};
+ghost use Prim.Native.Nat.{ℕ, _+_, _*_, _/_, _≤_, _<_};
+ghost use lib.ListN.{length, set};
+ghost use Rattle.arithmetic.specs.Word.{wrapAdd, wrapMul};
+ghost use Rattle.pixels.specs.Sizes.{maxSide, lanes, halfValues, badSide};
+ghost use Rattle.pixels.specs.Refusals.{bufferIf};
+ghost use Rattle.pixels.specs.Lanes.{matted};
+ghost use Rattle.rows.specs.Done.{doneNumber};
+ghost use Rattle.rows.specs.Incoming.{importNumber, addNumber};
+ghost use Rattle.rows.specs.WorkRows.{written, added};
+ghost use Rattle.rows.specs.Lanes.{rowValue};
+ghost use Rattle.rows.specs.Import.{at, Four, laneBytes, mattedAt, PixelAsks, Within, InLanes, GatherAsks, Gathers, Finished, ColumnAsks, Columns, RowAsks, Second, AdvanceAsks, Advances};
+
+// A number for each lane, or for each byte of a pixel.
+struct Quad {
+    a: u32,
+    b: u32,
+    c: u32,
+    d: u32,
+}
+
+fn zero4() -> Quad
+    ensures { λ r. ⌜ Four (λ k. at r k ≡ 0) ⌝ }
+{
+    Quad {
+        a: 0,
+        b: 0,
+        c: 0,
+        d: 0,
+    }
+}
+
+fn add4(x: Quad, y: Quad) -> Quad
+    ensures { λ r. ⌜ Four (λ k. at r k ≡ wrapAdd (at x k) (at y k)) ⌝ }
+{
+    Quad {
+        a: wrapping_add_u32(x.a, y.a),
+        b: wrapping_add_u32(x.b, y.b),
+        c: wrapping_add_u32(x.c, y.c),
+        d: wrapping_add_u32(x.d, y.d),
+    }
+}
+
+// The four bytes of pixel x, in their order, each times the alpha at `pa`: like work on like bytes makes one vector of them.
+// What stands at `pa` itself is a product that nobody reads.
+fn read_matted(row: &[u8], x: usize, pa: usize) -> Quad
+    requires { ⌜ PixelAsks (now row) x ⌝ }
+    requires { ⌜ pa < lanes ⌝ }
+    ensures { λ r. ⌜ Four (λ k. at r k ≡ mattedAt (now (row .entry)) pa k x) ⌝ }
+{
+    let i = 4 * x;
+    let alpha = row[i + pa];
+    Quad {
+        a: matte(row[i], alpha),
+        b: matte(row[i + 1], alpha),
+        c: matte(row[i + 2], alpha),
+        d: matte(row[i + 3], alpha),
+    }
+}
+
+// Pixel x as lanes B, G, R, A.
+fn read_lanes(row: &[u8], x: usize, p: Places) -> Quad
+    requires { ⌜ PixelAsks (now row) x ⌝ }
+    requires { ⌜ Within p ⌝ }
+    ensures { λ r. ⌜ Four (λ k. at r k ≡ laneBytes p (now (row .entry)) k x) ⌝ }
+{
+    let i = 4 * x;
+    let b = i + p.b;
+    let g = i + p.g;
+    let r = i + p.r;
+    let a = i + p.a;
+    let alpha = row[a];
+    Quad {
+        a: matte(row[b], alpha),
+        b: matte(row[g], alpha),
+        c: matte(row[r], alpha),
+        d: alpha as u32,
+    }
+}
+
+// From bytes' order to lanes B, G, R, A, with the alpha, which was kept apart.
+fn in_lanes(bytes: Quad, alpha: u32, p: Places) -> Quad
+    requires { ⌜ Within p ⌝ }
+    ensures { λ r. ⌜ InLanes p bytes alpha r ⌝ }
+{
+    let t = [bytes.a, bytes.b, bytes.c, bytes.d];
+    let b = p.b;
+    let g = p.g;
+    let r = p.r;
+    Quad {
+        a: t[b],
+        b: t[g],
+        c: t[r],
+        d: alpha,
+    }
+}
+
+struct Gathered {
+    sum: Quad,
+    last: Quad,
+    alpha: u32,
+    base: u32,
+    next: usize,
+    got: usize,
+}
+
+// Sums pixels from `from` on until they make `need`, m each; `last` and `base` are the last pixel. Bytes in their order, the alpha apart.
+fn gather(row: &[u8], m: usize, need: usize, from: usize, pa: usize) -> Gathered
+    requires { ⌜ GatherAsks (now row) (length (now row) / lanes) m need from pa ⌝ }
+    ensures { λ r. ⌜ Gathers (now (row .entry)) m need from pa (r .sum) (r .last) (r .alpha) (r .base) (r .next) (r .got) ⌝ }
+{
+    let mut sum = zero4();
+    let mut last = zero4();
+    let mut alpha = 0u32;
+    let mut base = 0u32;
+    let mut x = from;
+    let mut got = 0usize;
+    while got < need {
+        got += m;
+        last = read_matted(row, x, pa);
+        sum = add4(sum, last);
+        base = row[4 * x + pa] as u32;
+        alpha = wrapping_add_u32(alpha, base);
+        x += 1;
+    }
+    Gathered {
+        sum,
+        last,
+        alpha,
+        base,
+        next: x,
+        got,
+    }
+}
+
+struct Ended {
+    value: u32,
+    carry: u32,
+}
+
+// The value and the carry of one lane: what `over` parts of the last pixel are goes to the next column.
+fn finish(m: u32, scale: u32, over: u32, sum: u32, last: u32) -> Ended
+    ensures { λ r. ⌜ Finished m scale over sum last (r .value) (r .carry) ⌝ }
+{
+    let part = wrapping_mul(last, over);
+    Ended {
+        value: wrapping_sub_u32(wrapping_mul(sum, m), part),
+        carry: mult_fix(part, scale),
+    }
+}
+
+struct Column {
+    value: Quad,
+    carry: Quad,
+    next: usize,
+    debt: usize,
+}
+
+// One column from pixel x on; `debt` parts out of m were taken from the pixel before for the carry.
+fn make_column(
+    row: &[u8],
+    n: usize,
+    m: usize,
+    scale: u32,
+    x: usize,
+    debt: usize,
+    carry: Quad,
+    p: Places,
+) -> Column
+    requires { ⌜ ColumnAsks (now row) n m x debt carry p ⌝ }
+    ensures { λ r. ⌜ Columns (now (row .entry)) n m scale x debt carry p (r .value) (r .carry) (r .next) (r .debt) ⌝ }
+{
+    let need = n - debt;
+    let pa = p.a;
+    let g = gather(row, m, need, x, pa);
+    let over = g.got - need;
+    let sum = add4(carry, in_lanes(g.sum, g.alpha, p));
+    let last = in_lanes(g.last, g.base, p);
+    let o = over as u32;
+    let w = m as u32;
+    let a = finish(w, scale, o, sum.a, last.a);
+    let b = finish(w, scale, o, sum.b, last.b);
+    let c = finish(w, scale, o, sum.c, last.c);
+    let d = finish(w, scale, o, sum.d, last.d);
+    Column {
+        value: Quad {
+            a: a.value,
+            b: b.value,
+            c: c.value,
+            d: d.value,
+        },
+        carry: Quad {
+            a: a.carry,
+            b: b.carry,
+            c: c.carry,
+            d: d.carry,
+        },
+        next: g.next,
+        debt: over,
+    }
+}
+
+// Stores the four values of column j.
+fn put4(half: &mut [u32], j: usize, v: Quad)
+    requires { ⌜ (lanes * j + lanes ≤ length (now half)) × (j < maxSide) ⌝ }
+    ensures { λ _. ⌜ now (half .exit) ≡ set (set (set (set (now (half .entry)) (lanes * j) (v .a)) (lanes * j + 1) (v .b)) (lanes * j + 2) (v .c)) (lanes * j + 3) (v .d) ⌝ }
+{
+    let i = 4 * j;
+    half[i] = v.a;
+    half[i + 1] = v.b;
+    half[i + 2] = v.c;
+    half[i + 3] = v.d;
+}
+
+// Every column where the width does not grow.
+fn shrink_row(row: &[u8], n: usize, m: usize, p: Places, half: &mut [u32])
+    requires { ⌜ RowAsks (now row) (now half) n m p ⌝ }
+    requires { ⌜ m ≤ n ⌝ }
+    ensures { λ _. ⌜ now (half .exit) ≡ written (halfValues m) (rowValue (laneBytes p (now (row .entry))) n m) (now (half .entry)) ⌝ }
+{
+    let scale = frac(1, m as u32);
+    let mut x = 0usize;
+    let mut debt = 0usize;
+    let mut carry = zero4();
+    let mut j = 0usize;
+    while j < m {
+        let c = make_column(row, n, m, scale, x, debt, carry, p);
+        let v = c.value;
+        put4(half, j, v);
+        x = c.next;
+        debt = c.debt;
+        carry = c.carry;
+        j += 1;
+    }
+}
+
+// left×keep + right×rest of one lane.
+fn blend(left: u32, right: u32, keep: u32, rest: u32) -> u32
+    ensures { λ r. ⌜ r ≡ wrapAdd (wrapMul left keep) (wrapMul right rest) ⌝ }
+{
+    wrapping_add_u32(wrapping_mul(left, keep), wrapping_mul(right, rest))
+}
+
+fn blend4(left: Quad, right: Quad, keep: u32, rest: u32) -> Quad
+    ensures { λ r. ⌜ Four (λ k. at r k ≡ wrapAdd (wrapMul (at left k) keep) (wrapMul (at right k) rest)) ⌝ }
+{
+    Quad {
+        a: blend(left.a, right.a, keep, rest),
+        b: blend(left.b, right.b, keep, rest),
+        c: blend(left.c, right.c, keep, rest),
+        d: blend(left.d, right.d, keep, rest),
+    }
+}
+
+// Where an output column stands between two pixels: left is pixel x, right the next, and acc of span parts are the left's.
+struct Stand {
+    left: Quad,
+    right: Quad,
+    x: usize,
+    acc: u32,
+}
+
+// The pixel to the right of the first; of one pixel, itself: no pixel past the crop is read.
+fn second(n: usize) -> usize
+    requires { ⌜ 0 < n ⌝ }
+    ensures { λ r. ⌜ Second n r ⌝ }
+{
+    if n > 1 {
+        return 1;
+    }
+    0
+}
+
+// One column on: by `step` of the parts, into the next pixel where the left one has fewer.
+fn advance(row: &[u8], span: u32, step: u32, s: Stand, p: Places) -> Stand
+    requires { ⌜ AdvanceAsks (now row) (length (now row) / lanes) span step (s .left) (s .right) (s .x) (s .acc) p ⌝ }
+    ensures { λ r. ⌜ Advances (now (row .entry)) (length (now (row .entry)) / lanes) span step p (s .x) (s .acc) (r .left) (r .right) (r .x) (r .acc) ⌝ }
+{
+    let right = s.right;
+    if s.acc < step {
+        let next = s.x + 2;
+        return Stand {
+            left: right,
+            right: read_lanes(row, next, p),
+            x: s.x + 1,
+            acc: s.acc + span - step,
+        };
+    }
+    let left = s.left;
+    Stand {
+        left,
+        right,
+        x: s.x,
+        acc: s.acc - step,
+    }
+}
+
+// Every column where the width grows.
+fn grow_row(row: &[u8], n: usize, m: usize, p: Places, half: &mut [u32])
+    requires { ⌜ RowAsks (now row) (now half) n m p ⌝ }
+    requires { ⌜ n < m ⌝ }
+    ensures { λ _. ⌜ now (half .exit) ≡ written (halfValues m) (rowValue (laneBytes p (now (row .entry))) n m) (now (half .entry)) ⌝ }
+{
+    let span = (m - 1) as u32;
+    let step = (n - 1) as u32;
+    let left = read_lanes(row, 0, p);
+    let beside = second(n);
+    let right = read_lanes(row, beside, p);
+    let mut s = Stand {
+        left,
+        right,
+        x: 0,
+        acc: span + step,
+    };
+    let mut j = 0usize;
+    while j < m {
+        s = advance(row, span, step, s, p);
+        let l = s.left;
+        let r = s.right;
+        let v = blend4(l, r, s.acc, span - s.acc);
+        put4(half, j, v);
+        j += 1;
+    }
+}
+
+// Every column, either way.
+fn write_row(row: &[u8], n: usize, m: usize, p: Places, half: &mut [u32])
+    requires { ⌜ RowAsks (now row) (now half) n m p ⌝ }
+    ensures { λ _. ⌜ now (half .exit) ≡ written (halfValues m) (rowValue (laneBytes p (now (row .entry))) n m) (now (half .entry)) ⌝ }
+{
+    if m <= n {
+        shrink_row(row, n, m, p, half);
+        return;
+    }
+    grow_row(row, n, m, p, half);
+}
+
+fn bad_width(width: u32) -> bool
+    ensures { λ r. ⌜ r ≡ badSide width ⌝ }
+{
+    if width == 0 {
+        return true;
+    }
+    width > MAX_DIMENSION
+}
+
+// One row of the crop, matted as it is read, into a half. A row as wide as the target goes the same way: matting changes it.
+// Rules out: a carry rounded down; a row of the crop's width copied as it is; two lanes exchanged; sums that saturate.
+pub fn import_row(
+    layout: PixelLayout,
+    crop_width: u32,
+    target_width: u32,
+    row: &[u8],
+    half: &mut [u32],
+) -> Done
+    ensures number { λ r. ⌜ doneNumber r ≡ importNumber «crop_width» «target_width» (length (now (row .entry))) (length (now (half .entry))) ⌝ }
+    ensures half { λ _. ⌜ now (half .exit) ≡ bufferIf (importNumber «crop_width» «target_width» (length (now (row .entry))) (length (now (half .entry)))) (written (halfValues «target_width») (rowValue (matted layout (now (row .entry))) «crop_width» «target_width») (now (half .entry))) (now (half .entry)) ⌝ }
+{
+    if bad_width(crop_width) {
+        return Done::Refused(Refusal::InvalidDimensions);
+    }
+    if bad_width(target_width) {
+        return Done::Refused(Refusal::InvalidDimensions);
+    }
+    let n = crop_width as usize;
+    let m = target_width as usize;
+    if row.len() != 4 * n {
+        return Done::Refused(Refusal::PixelBufferMismatch);
+    }
+    if half.len() < 4 * m {
+        return Done::Refused(Refusal::WorkLength);
+    }
+    write_row(row, n, m, layout.places(), half);
+    Done::Done
+}
+
+fn add_to_first(work: &mut [u32], w: usize)
+    requires { ⌜ w + w ≤ length (now work) ⌝ }
+    ensures { λ _. ⌜ now (work .exit) ≡ added w (now (work .entry)) ⌝ }
+{
+    let mut k = 0usize;
+    while k < w {
+        work[k] = wrapping_add_u32(work[k], work[w + k]);
+        k += 1;
+    }
+}
+
+// The second half added to the first, modulo 2^32; the second stays.
+// Rules out: a sum that saturates; the last value left out; the sum put into the second half.
+pub fn add_halves(target_width: u32, work: &mut [u32]) -> Done
+    ensures number { λ r. ⌜ doneNumber r ≡ addNumber «target_width» (length (now (work .entry))) ⌝ }
+    ensures work { λ _. ⌜ now (work .exit) ≡ bufferIf (addNumber «target_width» (length (now (work .entry)))) (added (halfValues «target_width») (now (work .entry))) (now (work .entry)) ⌝ }
+{
+    if bad_width(target_width) {
+        return Done::Refused(Refusal::InvalidDimensions);
+    }
+    let w = 4 * target_width as usize;
+    if work.len() < 2 * w {
+        return Done::Refused(Refusal::WorkLength);
+    }
+    add_to_first(work, w);
+    Done::Done
+}

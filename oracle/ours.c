@@ -1,0 +1,220 @@
+/* The port behind the oracle's job stream (README.md has the format): a line for each job on standard output.
+ *
+ *   cc -O2 ours.c ADAPTER.c target/staticlib/libcapi.a -o ours && ./ours < jobs > answers
+ *
+ * Each lent buffer lies between two guards. The last word of an answer is 1 if guards, inputs and work values that were not
+ * lent are as they were. */
+#include "ours.h"
+#include "picture.h"
+
+#define GUARD 64
+
+/* A buffer of n bytes between two guards. */
+typedef struct {
+  uint8_t *room, *at, *copy;
+  size_t n;
+} Buffer;
+
+static Buffer lend(size_t n) {
+  Buffer b = {malloc(n + 2 * GUARD), NULL, NULL, n};
+  memset(b.room, 0x5c, n + 2 * GUARD);
+  b.at = b.room + GUARD;
+  return b;
+}
+
+/* An input: a copy is kept, to see that the call leaves it alone. */
+static void keep(Buffer* b) {
+  b->copy = malloc(b->n + 1);
+  memcpy(b->copy, b->at, b->n);
+}
+
+static Buffer lend_out(size_t n) {
+  Buffer b = lend(n);
+  for (size_t i = 0; i < n; ++i) b.at[i] = 0xa5 ^ (uint8_t)i;
+  return b;
+}
+
+static Buffer lend_words(size_t n) {
+  Buffer b = lend(4 * n);
+  for (size_t i = 0; i < n; ++i) ((uint32_t*)b.at)[i] = ((uint32_t)i + 1) * 2654435769u;
+  return b;
+}
+
+static int intact(const Buffer* b) {
+  for (size_t i = 0; i < GUARD; ++i) {
+    if (b->room[i] != 0x5c || b->at[b->n + i] != 0x5c) return 0;
+  }
+  return !b->copy || !memcmp(b->copy, b->at, b->n);
+}
+
+static int give_back(Buffer b) {
+  const int ok = intact(&b);
+  free(b.copy);
+  free(b.room);
+  return ok;
+}
+
+/* FNV-1a of 64 bits over whole words. */
+static uint64_t fnv_words(const Buffer* b) {
+  uint64_t h = 0xcbf29ce484222325u;
+  for (size_t i = 0; i < b->n / 4; ++i) h = (h ^ ((const uint32_t*)b->at)[i]) * 0x100000001b3u;
+  return h;
+}
+
+static Buffer lend_pixels(uint32_t layout, uint64_t pattern, uint64_t seed, size_t n) {
+  Buffer b = lend(n);
+  make_bytes((int)layout, (uint32_t)pattern, (uint32_t)seed, b.at, n);
+  return b;
+}
+
+/* number flag bytes work kept */
+static void whole(uint32_t n, uint32_t flag, const Buffer* out, const Buffer* work, int kept) {
+  printf("%u %u ", n, n == 0 ? flag : 0);
+  if (out) put_hex(out->at, out->n);
+  else putchar('-');
+  if (work) printf(" %016llx", (unsigned long long)fnv_words(work));
+  else fputs(" -", stdout);
+  printf(" %d\n", kept);
+}
+
+static void resize(const uint64_t* v) {
+  Buffer px = lend_pixels((uint32_t)v[0], v[8], v[9], v[5]), out = lend_out(v[6]), work = lend_words(v[7]);
+  uint32_t flag = 0;
+  keep(&px);
+  const uint32_t n = ours_resize(v[0], v[1], v[2], v[3], v[4], px.at, px.n, out.at, out.n, (uint32_t*)work.at, v[7], &flag);
+  if (n == OURS_ABSENT) puts("-");
+  else whole(n, flag, &out, &work, intact(&px) & intact(&out) & intact(&work));
+  give_back(px), give_back(out), give_back(work);
+}
+
+static void crop(const uint64_t* v) {
+  Buffer px = lend_pixels((uint32_t)v[0], v[9], v[10], v[7]), out = lend_out(v[8]);
+  uint32_t flag = 0;
+  keep(&px);
+  const uint32_t n = ours_crop(v[0], v[1], v[2], v[3], v[4], v[5], v[6], px.at, px.n, out.at, out.n, &flag);
+  if (n == OURS_ABSENT) puts("-");
+  else whole(n, flag, &out, NULL, intact(&px) & intact(&out));
+  give_back(px), give_back(out);
+}
+
+static void plane(const uint64_t* v) {
+  Buffer px = lend_pixels((uint32_t)v[0], v[5], v[6], v[3]), alpha = lend(v[4]);
+  uint32_t flag = 0;
+  make_plane((uint32_t)v[5], (uint32_t)v[6], alpha.at, alpha.n);
+  keep(&alpha);
+  const uint32_t n = ours_apply_alpha_plane(v[0], v[1], v[2], px.at, px.n, alpha.at, alpha.n, &flag);
+  if (n == OURS_ABSENT) puts("-");
+  else whole(n, flag, &px, NULL, intact(&px) & intact(&alpha));
+  give_back(px), give_back(alpha);
+}
+
+static void has_alpha(const uint64_t* v) {
+  Buffer px = lend_pixels((uint32_t)v[0], v[4], v[5], v[3]);
+  uint32_t flag = 0;
+  keep(&px);
+  const uint32_t n = ours_has_alpha(v[0], v[1], v[2], px.at, px.n, &flag);
+  if (n == OURS_ABSENT) puts("-");
+  else whole(n, flag, NULL, NULL, intact(&px));
+  give_back(px);
+}
+
+static void unpack_all(const uint64_t* v) {
+  Buffer px = lend_pixels((uint32_t)v[0], v[3], v[4], v[1]), out = lend_words(v[2]);
+  keep(&px);
+  const uint32_t n = ours_unpack(v[0], px.at, px.n, (uint32_t*)out.at, v[2]);
+  if (n == OURS_ABSENT) puts("-");
+  else whole(n, 0, &out, NULL, intact(&px) & intact(&out));
+  give_back(px), give_back(out);
+}
+
+static void pack_all(const uint64_t* v) {
+  Buffer argb = lend_pixels(2, v[3], v[4], 4 * v[1]), out = lend_out(v[2]);
+  keep(&argb);
+  const uint32_t n = ours_pack(v[0], (const uint32_t*)argb.at, v[1], out.at, out.n);
+  if (n == OURS_ABSENT) puts("-");
+  else whole(n, 0, &out, NULL, intact(&argb) & intact(&out));
+  give_back(argb), give_back(out);
+}
+
+static void scaled(const uint64_t* v) {
+  uint32_t w = 0, h = 0;
+  const uint32_t n = ours_scaled(v[0], v[1], v[2], v[3], &w, &h);
+  if (n == OURS_ABSENT) puts("-");
+  else printf("%u %u %u\n", n, n == 0 ? w : 0, n == 0 ? h : 0);
+}
+
+static void put_record(const uint32_t* r, const Buffer* work) {
+  for (int i = 0; i < OURS_RECORD; ++i) printf("%c%u", i ? ',' : ' ', r[i]);
+  printf(" %016llx", (unsigned long long)fnv_words(work));
+}
+
+/* Work values beyond the part that a call was lent are an input too. */
+static int beyond_kept(const Buffer* work, const uint32_t* before, size_t lent) {
+  return !memcmp(work->at + 4 * lent, before + lent, work->n - 4 * lent);
+}
+
+static void job(const uint64_t* v, char* at) {
+  uint32_t r[OURS_RECORD] = {v[1], v[2], v[0], v[3], v[4], v[5], v[6], v[7], v[8], 7, 7, 7};
+  const size_t work_len = v[9];
+  Buffer work = lend_words(work_len);
+  const uint32_t started = ours_start(r, (uint32_t*)work.at, work_len);
+  if (started == OURS_ABSENT) {
+    puts("-");
+    give_back(work);
+    return;
+  }
+  printf("%u %016llx", started, (unsigned long long)fnv_words(&work));
+  if (started != 0) {
+    printf(" %d\n", give_back(work));
+    return;
+  }
+  Buffer px = lend_pixels((uint32_t)v[0], v[10], v[11], 4 * v[1] * v[2] + 8 * v[1] + 8);
+  uint32_t* const before = malloc(4 * work_len + 4);
+  int kept = 1;
+  keep(&px);
+  for (const char* kind = word(&at); *kind; kind = word(&at)) {
+    uint64_t a[3];
+    memcpy(before, work.at, work.n);
+    if (*kind == 'o') {
+      uint32_t rows = 0;
+      numbers(&at, a, 3);
+      const uint32_t n = ours_offer(r, px.at + a[0], a[1], (uint32_t*)work.at, a[2], &rows);
+      printf(" %u %u", n, n == 0 ? rows : 0);
+      kept &= beyond_kept(&work, before, a[2]);
+    } else if (*kind == 't') {
+      numbers(&at, a, 2);
+      Buffer out = lend_out(a[0]);
+      printf(" %u ", ours_take(r, out.at, out.n, (uint32_t*)work.at, a[1]));
+      put_hex(out.at, out.n);
+      kept &= give_back(out) & beyond_kept(&work, before, a[1]);
+    } else {
+      numbers(&at, a, 2);
+      r[a[0]] = (uint32_t)a[1];
+      continue;
+    }
+    put_record(r, &work);
+  }
+  printf(" %d\n", kept & give_back(px) & give_back(work));
+  free(before);
+}
+
+int main(void) {
+  char* line = NULL;
+  size_t room = 0;
+  setvbuf(stdout, NULL, _IOLBF, 1 << 16);
+  while (getline(&line, &room, stdin) > 0) {
+    char* at = line;
+    const char* const kind = word(&at);
+    uint64_t v[16];
+    if (!strcmp(kind, "resize")) numbers(&at, v, 10), resize(v);
+    else if (!strcmp(kind, "crop")) numbers(&at, v, 11), crop(v);
+    else if (!strcmp(kind, "plane")) numbers(&at, v, 7), plane(v);
+    else if (!strcmp(kind, "flag")) numbers(&at, v, 6), has_alpha(v);
+    else if (!strcmp(kind, "unpack")) numbers(&at, v, 5), unpack_all(v);
+    else if (!strcmp(kind, "pack")) numbers(&at, v, 5), pack_all(v);
+    else if (!strcmp(kind, "scaled")) numbers(&at, v, 4), scaled(v);
+    else if (!strcmp(kind, "job")) numbers(&at, v, 12), job(v, at);
+    else puts("! no job");
+  }
+  return 0;
+}

@@ -1,0 +1,10 @@
+//! Stands in for webpkit's `crate::error`: the three cases that the two files name, with document 01's numbers.
+
+#[derive(Clone, Copy, PartialEq, Eq, Debug)]
+pub enum Error {
+    InvalidDimensions = 1,
+    CropOutOfBounds = 2,
+    PixelBufferMismatch = 3,
+}
+
+pub type Result<T> = core::result::Result<T, Error>;

@@ -1,0 +1,199 @@
+//! A job is one line of words; README.md has the format.
+use std::fmt;
+
+/// The twelve numbers of a record: source width and height, layout, crop x, y, width and height, target width and height, rows accepted, rows taken, flag.
+pub type Record = [u32; 12];
+pub const K: usize = 9;
+pub const T: usize = 10;
+pub const FLAG: usize = 11;
+
+#[derive(Clone, Copy, Debug, PartialEq)]
+pub enum Call {
+    /// Bytes `from .. from + len` of the picture without end, and so many work values.
+    Offer { from: usize, len: usize, work: usize },
+    /// An output buffer of so many bytes, and so many work values.
+    Take { out: usize, work: usize },
+    /// The record's field becomes the value.
+    Set { field: usize, value: u32 },
+}
+
+#[derive(Clone, Copy, Debug, PartialEq)]
+pub struct Sizes {
+    pub layout: u32,
+    pub w: u32,
+    pub h: u32,
+    pub x: u32,
+    pub y: u32,
+    pub cw: u32,
+    pub ch: u32,
+    pub tw: u32,
+    pub th: u32,
+}
+
+impl Sizes {
+    pub fn record(&self) -> Record {
+        let s = self;
+        [s.w, s.h, s.layout, s.x, s.y, s.cw, s.ch, s.tw, s.th, 0, 0, 0]
+    }
+    pub fn of(r: &Record) -> Self {
+        Sizes { layout: r[2], w: r[0], h: r[1], x: r[3], y: r[4], cw: r[5], ch: r[6], tw: r[7], th: r[8] }
+    }
+}
+
+/// Which pixels.
+#[derive(Clone, Copy, Debug, PartialEq)]
+pub struct Pixels {
+    pub pattern: u32,
+    pub seed: u32,
+}
+
+#[derive(Clone, Debug, PartialEq)]
+pub enum Job {
+    Resize { layout: u32, w: u32, h: u32, tw: u32, th: u32, pixels: usize, out: usize, work: usize, px: Pixels },
+    Crop { layout: u32, w: u32, h: u32, x: u32, y: u32, cw: u32, ch: u32, pixels: usize, out: usize, px: Pixels },
+    Plane { layout: u32, w: u32, h: u32, pixels: usize, plane: usize, px: Pixels },
+    Flag { layout: u32, w: u32, h: u32, pixels: usize, px: Pixels },
+    Unpack { layout: u32, bytes: usize, out: usize, px: Pixels },
+    Pack { layout: u32, count: usize, out: usize, px: Pixels },
+    Scaled { w: u32, h: u32, tw: u32, th: u32 },
+    Rows { sizes: Sizes, work: usize, px: Pixels, calls: Vec<Call> },
+}
+
+impl fmt::Display for Job {
+    fn fmt(&self, f: &mut fmt::Formatter) -> fmt::Result {
+        match self {
+            Job::Resize { layout, w, h, tw, th, pixels, out, work, px } => {
+                write!(f, "resize {layout} {w} {h} {tw} {th} {pixels} {out} {work} {} {}", px.pattern, px.seed)
+            }
+            Job::Crop { layout, w, h, x, y, cw, ch, pixels, out, px } => {
+                write!(f, "crop {layout} {w} {h} {x} {y} {cw} {ch} {pixels} {out} {} {}", px.pattern, px.seed)
+            }
+            Job::Plane { layout, w, h, pixels, plane, px } => write!(f, "plane {layout} {w} {h} {pixels} {plane} {} {}", px.pattern, px.seed),
+            Job::Flag { layout, w, h, pixels, px } => write!(f, "flag {layout} {w} {h} {pixels} {} {}", px.pattern, px.seed),
+            Job::Unpack { layout, bytes, out, px } => write!(f, "unpack {layout} {bytes} {out} {} {}", px.pattern, px.seed),
+            Job::Pack { layout, count, out, px } => write!(f, "pack {layout} {count} {out} {} {}", px.pattern, px.seed),
+            Job::Scaled { w, h, tw, th } => write!(f, "scaled {w} {h} {tw} {th}"),
+            Job::Rows { sizes: s, work, px, calls } => {
+                write!(f, "job {} {} {} {} {} {} {} {} {}", s.layout, s.w, s.h, s.x, s.y, s.cw, s.ch, s.tw, s.th)?;
+                write!(f, " {work} {} {}", px.pattern, px.seed)?;
+                for call in calls {
+                    match call {
+                        Call::Offer { from, len, work } => write!(f, " o {from} {len} {work}")?,
+                        Call::Take { out, work } => write!(f, " t {out} {work}")?,
+                        Call::Set { field, value } => write!(f, " s {field} {value}")?,
+                    }
+                }
+                Ok(())
+            }
+        }
+    }
+}
+
+struct Words<'a>(std::str::SplitAsciiWhitespace<'a>);
+
+impl Words<'_> {
+    fn size(&mut self) -> Option<usize> {
+        self.0.next()?.parse().ok()
+    }
+    fn num(&mut self) -> Option<u32> {
+        self.0.next()?.parse().ok()
+    }
+    fn px(&mut self) -> Option<Pixels> {
+        Some(Pixels { pattern: self.num()?, seed: self.num()? })
+    }
+}
+
+impl Job {
+    pub fn parse(line: &str) -> Option<Job> {
+        let mut all = Words(line.split_ascii_whitespace());
+        let kind = all.0.next()?;
+        let v = &mut all;
+        let job = match kind {
+            "resize" => Job::Resize {
+                layout: v.num()?,
+                w: v.num()?,
+                h: v.num()?,
+                tw: v.num()?,
+                th: v.num()?,
+                pixels: v.size()?,
+                out: v.size()?,
+                work: v.size()?,
+                px: v.px()?,
+            },
+            "crop" => Job::Crop {
+                layout: v.num()?,
+                w: v.num()?,
+                h: v.num()?,
+                x: v.num()?,
+                y: v.num()?,
+                cw: v.num()?,
+                ch: v.num()?,
+                pixels: v.size()?,
+                out: v.size()?,
+                px: v.px()?,
+            },
+            "plane" => Job::Plane { layout: v.num()?, w: v.num()?, h: v.num()?, pixels: v.size()?, plane: v.size()?, px: v.px()? },
+            "flag" => Job::Flag { layout: v.num()?, w: v.num()?, h: v.num()?, pixels: v.size()?, px: v.px()? },
+            "unpack" => Job::Unpack { layout: v.num()?, bytes: v.size()?, out: v.size()?, px: v.px()? },
+            "pack" => Job::Pack { layout: v.num()?, count: v.size()?, out: v.size()?, px: v.px()? },
+            "scaled" => Job::Scaled { w: v.num()?, h: v.num()?, tw: v.num()?, th: v.num()? },
+            "job" => {
+                let sizes = Sizes {
+                    layout: v.num()?,
+                    w: v.num()?,
+                    h: v.num()?,
+                    x: v.num()?,
+                    y: v.num()?,
+                    cw: v.num()?,
+                    ch: v.num()?,
+                    tw: v.num()?,
+                    th: v.num()?,
+                };
+                let (work, px) = (v.size()?, v.px()?);
+                let mut calls = Vec::new();
+                while let Some(word) = v.0.next() {
+                    calls.push(match word {
+                        "o" => Call::Offer { from: v.size()?, len: v.size()?, work: v.size()? },
+                        "t" => Call::Take { out: v.size()?, work: v.size()? },
+                        "s" => Call::Set { field: v.size()?, value: v.num()? },
+                        _ => return None,
+                    });
+                }
+                return Some(Job::Rows { sizes, work, px, calls });
+            }
+            _ => return None,
+        };
+        if v.0.next().is_some() { None } else { Some(job) }
+    }
+
+    /// How large the job is, to order differences by.
+    pub fn weight(&self) -> u64 {
+        match self {
+            Job::Resize { w, h, tw, th, pixels, .. } => *pixels as u64 / 4 + area(*tw, *th) + side(*w) + side(*h),
+            Job::Crop { w, h, cw, ch, pixels, .. } => *pixels as u64 / 4 + area(*cw, *ch) + side(*w) + side(*h),
+            Job::Plane { pixels, .. } | Job::Flag { pixels, .. } => *pixels as u64 / 4,
+            Job::Unpack { bytes, .. } => *bytes as u64 / 4,
+            Job::Pack { count, .. } => *count as u64,
+            Job::Scaled { w, h, tw, th } => side(*w) + side(*h) + side(*tw) + side(*th),
+            Job::Rows { sizes: s, calls, .. } => area(s.w, s.h) + area(s.tw, s.th) + calls.len() as u64,
+        }
+    }
+
+    /// Whether a sum may wrap: 255 × span × h is at least 2^32 × g. There libwebp is no judge.
+    pub fn may_wrap(&self) -> bool {
+        let (n, h, m, g) = match self {
+            Job::Resize { w, h, tw, th, .. } => (*w, *h, *tw, *th),
+            Job::Rows { sizes: s, .. } => (s.cw, s.ch, s.tw, s.th),
+            _ => return false,
+        };
+        let span = u64::from(if m <= n { n } else { m - 1 });
+        255 * span * u64::from(h) >= u64::from(g) << 32
+    }
+}
+
+fn side(s: u32) -> u64 {
+    u64::from(s.min(1 << 20))
+}
+fn area(w: u32, h: u32) -> u64 {
+    side(w) * side(h)
+}

@@ -1,0 +1,437 @@
+//! Makes jobs: exhaustively for small sides, at random around every boundary. The same seed makes the same jobs.
+use crate::job::{Call, FLAG, Job, K, Pixels, Record, Sizes, T};
+use crate::picture::PATTERNS;
+use crate::table;
+
+/// splitmix64.
+pub struct Random(pub u64);
+
+impl Random {
+    pub fn next(&mut self) -> u64 {
+        self.0 = self.0.wrapping_add(0x9e3779b97f4a7c15);
+        let z = (self.0 ^ self.0 >> 30).wrapping_mul(0xbf58476d1ce4e5b9);
+        let z = (z ^ z >> 27).wrapping_mul(0x94d049bb133111eb);
+        z ^ z >> 31
+    }
+    /// 0 to n - 1.
+    pub fn below(&mut self, n: u32) -> u32 {
+        ((self.next() >> 32) * u64::from(n) >> 32) as u32
+    }
+    /// a to b.
+    pub fn within(&mut self, a: u32, b: u32) -> u32 {
+        a + self.below(b - a + 1)
+    }
+    pub fn one_in(&mut self, n: u32) -> bool {
+        self.below(n) == 0
+    }
+    pub fn of<V: Copy>(&mut self, values: &[V]) -> V {
+        values[self.below(values.len() as u32) as usize]
+    }
+    fn pixels(&mut self) -> Pixels {
+        Pixels { pattern: self.below(PATTERNS), seed: self.next() as u32 }
+    }
+}
+
+/// The sets of jobs, and how many of each a gate's run and a long run have.
+pub const SETS: [(&str, u64, u64); 13] = [
+    ("small", 12288, 80 * 12288),
+    ("small-rows", 12288, 80 * 12288),
+    ("edges", 3000, 60_000),
+    ("edges-rows", 1000, 10_000),
+    ("crops", 6000, 600_000),
+    ("calls", 12000, 1_000_000),
+    ("records", 4000, 400_000),
+    ("bad", 8000, 400_000),
+    ("bad-start", 4000, 400_000),
+    ("alphas", 300, 6000),
+    ("beside", 8000, 400_000),
+    ("wraps", 16, 300),
+    ("strips", 6, 30),
+];
+
+/// Job number i of a set.
+pub fn make(set: &str, i: u64, r: &mut Random) -> Job {
+    match set {
+        "small" => whole(&small(i), r),
+        "small-rows" => rows(&small(i), 0, r),
+        "edges" => whole(&edges(r, true), r),
+        "edges-rows" => rows(&edges(r, false), 0, r),
+        "crops" => rows(&crops(r), 0, r),
+        "calls" => {
+            let sizes = calls(r);
+            rows(&sizes, 4, r)
+        }
+        "records" => records(r),
+        "bad" => bad(r),
+        "bad-start" => bad_start(r),
+        "alphas" => alphas(i, r),
+        "beside" => beside(r),
+        "wraps" => wraps(r),
+        "strips" => strips(i, r),
+        _ => panic!("no set {set}"),
+    }
+}
+
+fn full(layout: u32, w: u32, h: u32, tw: u32, th: u32) -> Sizes {
+    Sizes { layout, w, h, x: 0, y: 0, cw: w, ch: h, tw, th }
+}
+
+fn whole_with(s: &Sizes, px: Pixels, extra: usize) -> Job {
+    Job::Resize {
+        layout: s.layout,
+        w: s.w,
+        h: s.h,
+        tw: s.tw,
+        th: s.th,
+        pixels: 4 * s.w as usize * s.h as usize,
+        out: 4 * s.tw as usize * s.th as usize,
+        work: 8 * s.tw as usize + extra,
+        px,
+    }
+}
+
+fn whole(s: &Sizes, r: &mut Random) -> Job {
+    whole_with(s, r.pixels(), r.below(4) as usize)
+}
+
+/// Every source and target side from 1 to 8, in every layout.
+fn small(i: u64) -> Sizes {
+    let digit = |k: u32| (i / 3 >> (3 * k) & 7) as u32 + 1;
+    full((i % 3) as u32, digit(0), digit(1), digit(2), digit(3))
+}
+
+const SIDES: [u32; 8] = [1, 2, 3, 255, 256, 257, 16383, 16384];
+
+fn side(r: &mut Random) -> u32 {
+    if r.one_in(2) { r.of(&SIDES) } else { r.within(1, 40) }
+}
+
+/// Steps that a job takes: pixels in, values for each row in, pixels out.
+fn cost(s: &Sizes) -> u64 {
+    let by = |a: u32, b: u32| u64::from(a) * u64::from(b);
+    by(s.w, s.h) + by(s.ch, s.tw) + by(s.th, s.tw)
+}
+
+/// Sides at the boundaries: span 1, equal sizes, heights that grow and shrink.
+fn edges(r: &mut Random, uncropped: bool) -> Sizes {
+    loop {
+        let (w, h) = (side(r), side(r));
+        let (tw, th) = match r.below(8) {
+            0 => (w, h),
+            1 => (w, side(r)),
+            2 => (side(r), h),
+            3 => (r.of(&[w.saturating_sub(1).max(1), w, w + 1]).min(16384), r.of(&[h.saturating_sub(1).max(1), h, h + 1]).min(16384)),
+            4 => (r.within(1, 2), side(r)),
+            _ => (side(r), side(r)),
+        };
+        let mut s = full(r.below(3), w, h, tw, th);
+        if !uncropped {
+            crop_at_edge(&mut s, r);
+        }
+        if r.one_in(8) {
+            (s.w, s.cw, s.x) = (1, 1, 0);
+            s.tw = r.within(1, 3);
+        }
+        if cost(&s) <= 300_000 {
+            return s;
+        }
+    }
+}
+
+/// A crop that touches any of the four edges, or none.
+fn crop_at_edge(s: &mut Sizes, r: &mut Random) {
+    let mut axis = |side: u32| -> (u32, u32) {
+        let len = if r.one_in(3) { side } else { r.within(1, side) };
+        let at = match r.below(3) {
+            0 => 0,
+            1 => side - len,
+            _ => r.within(0, side - len),
+        };
+        (at, len)
+    };
+    (s.x, s.cw) = axis(s.w);
+    (s.y, s.ch) = axis(s.h);
+}
+
+fn crops(r: &mut Random) -> Sizes {
+    let mut s = full(r.below(3), r.within(1, 12), r.within(1, 14), r.within(1, 12), r.within(1, 16));
+    crop_at_edge(&mut s, r);
+    if r.one_in(6) {
+        (s.tw, s.th) = (s.cw, s.ch);
+    }
+    s
+}
+
+fn calls(r: &mut Random) -> Sizes {
+    let mut s = full(r.below(3), r.within(1, 5), r.within(1, 7), r.within(1, 5), r.within(1, 9));
+    crop_at_edge(&mut s, r);
+    s
+}
+
+/// A job by rows, cut at random; one call in `bad` is a wrong one (none if 0).
+fn rows(s: &Sizes, bad: u32, r: &mut Random) -> Job {
+    let px = r.pixels();
+    let work = 8 * s.tw as usize + r.below(4) as usize;
+    let mut record = s.record();
+    let mut list = Vec::new();
+    let row = 4 * s.w as usize;
+    let out = 4 * s.tw as usize;
+    let least = s.h / 100;
+    let most = least + r.of(&[1, 2, 3, 5, s.h + 2]);
+    let left = |record: &Record| record[K] < s.h || record[T] < s.th;
+    let mut over = if bad == 0 { 0 } else { r.below(4) };
+    while left(&record) || over > 0 {
+        if !left(&record) {
+            over -= 1;
+        }
+        let ready = table::made(s, record[K]) > record[T];
+        let from = record[K] as usize * row;
+        if bad > 0 && (r.one_in(bad) || !left(&record)) {
+            wrong_call(s, &record, (from, row, out, work), &mut list, r);
+        } else if ready {
+            list.push(Call::Take { out, work: r.of(&[work, 8 * s.tw as usize]) });
+            record[T] += 1;
+        } else {
+            let n = r.within(1 + least, most).min(s.h + 2 - record[K]);
+            list.push(Call::Offer { from, len: n as usize * row, work });
+            for _ in 0..n {
+                record[K] += 1;
+                if record[K] == s.h || table::made(s, record[K]) > record[T] {
+                    break;
+                }
+            }
+        }
+    }
+    Job::Rows { sizes: *s, work, px, calls: list }
+}
+
+/// A record that the caller filled: rows accepted, rows taken and flag become others that pass the rules, and calls go on.
+fn records(r: &mut Random) -> Job {
+    let sizes = calls(r);
+    let Job::Rows { sizes: s, work, px, calls } = rows(&sizes, 0, r) else { unreachable!() };
+    let mut list: Vec<Call> = calls.iter().copied().take(r.below(calls.len() as u32 + 1) as usize).collect();
+    let k = r.within(0, s.h);
+    let (least, most) = if k == 0 { (0, 0) } else { (table::made(&s, k - 1), table::made(&s, k)) };
+    let mut t = r.within(least, most);
+    let flag = u32::from(t > 0 && r.one_in(2));
+    for (field, value) in [(K, k), (T, t), (FLAG, flag)] {
+        list.push(Call::Set { field, value });
+    }
+    while t < most {
+        list.push(Call::Take { out: 4 * s.tw as usize, work });
+        t += 1;
+    }
+    if k < s.h {
+        let row = 4 * s.w as usize;
+        list.push(Call::Offer { from: k as usize * row, len: row, work });
+        list.push(Call::Take { out: 4 * s.tw as usize, work });
+    }
+    Job::Rows { sizes: s, work, px, calls: list }
+}
+
+/// A call that some rule may turn away, or two rules at once.
+fn wrong_call(s: &Sizes, record: &Record, (from, row, out, work): (usize, usize, usize, usize), list: &mut Vec<Call>, r: &mut Random) {
+    let short = 8 * s.tw as usize - 1;
+    let lent = r.of(&[work, work, 8 * s.tw as usize, short, 0]);
+    let off = |len: usize, r: &mut Random| r.of(&[len, len, 0, len + 1, len - 1, len + 4, 2 * len]);
+    let call = |list: &mut Vec<Call>, r: &mut Random| {
+        list.push(if r.one_in(2) {
+            let len = off(row, r);
+            // Bytes of another place: only where the call is sure to be turned away.
+            let sure = table::made(s, record[K]) > record[T] || record[K] == s.h || lent <= short || len == 0 || len % row != 0;
+            Call::Offer { from: if sure { 0 } else { from }, len: if sure { len } else { 0 }, work: lent }
+        } else {
+            let ready = table::made(s, record[K]) > record[T];
+            let len = off(out, r);
+            Call::Take { out: if ready && lent > short && len == out { out + 1 } else { len }, work: lent }
+        });
+    };
+    if !r.one_in(3) {
+        call(list, r);
+        return;
+    }
+    // The record is changed for one call; where the change still passes the rules, number 5 or 3 turns the call away.
+    let field = r.below(12) as usize;
+    let held = record[field];
+    let value = match field {
+        2 => held,
+        FLAG => 1 - held,
+        _ => r.of(&[0, held.wrapping_add(1), held.wrapping_sub(1), 16384, 16385, u32::MAX, held]),
+    };
+    list.push(Call::Set { field, value });
+    let mut changed = *record;
+    changed[field] = value;
+    if table::record_ok(&changed) && changed != *record {
+        list.push(if r.one_in(2) { Call::Offer { from: 0, len: 0, work: 0 } } else { Call::Take { out: 0, work: 0 } });
+    } else {
+        call(list, r);
+    }
+    list.push(Call::Set { field, value: held });
+}
+
+fn wrong_side(s: u32, r: &mut Random) -> u32 {
+    if r.one_in(7) { r.of(&[0, 1, 16384, 16385, 65536, 1 << 31, u32::MAX]) } else { s }
+}
+
+fn off_length(len: usize, r: &mut Random) -> usize {
+    let len = len.min(1 << 16);
+    if r.one_in(3) { r.of(&[0, len + 1, len.saturating_sub(1), len + 4, len.saturating_sub(4), len / 2, 2 * len]) } else { len }
+}
+
+fn bytes_of(w: u32, h: u32) -> usize {
+    (u64::from(w) * u64::from(h)).min(1 << 18) as usize * 4
+}
+
+/// Whole-picture calls with one or several causes to be turned away; a few have none.
+fn bad(r: &mut Random) -> Job {
+    let layout = r.below(3);
+    let px = r.pixels();
+    let (w0, h0, tw0, th0) = (r.within(1, 6), r.within(1, 6), r.within(1, 6), r.within(1, 6));
+    let (w, h) = (wrong_side(w0, r), wrong_side(h0, r));
+    let pixels = off_length(bytes_of(w, h), r);
+    match r.below(9) {
+        0..=2 => {
+            let (tw, th) = (wrong_side(tw0, r), wrong_side(th0, r));
+            let out = off_length(bytes_of(tw, th), r);
+            let work = off_length(8 * tw.min(4096) as usize, r);
+            Job::Resize { layout, w, h, tw, th, pixels, out, work, px }
+        }
+        3..=5 => {
+            let (x, y) = (r.of(&[0, 0, 1, w.wrapping_sub(1), w, 16384, u32::MAX]), r.of(&[0, 0, 1, h.wrapping_sub(1), h, 16384, u32::MAX]));
+            let cw = r.of(&[0, 1, w.saturating_sub(x), w, w.wrapping_add(1), u32::MAX]);
+            let ch = r.of(&[0, 1, h.saturating_sub(y), h, h.wrapping_add(1), u32::MAX]);
+            let out = off_length(bytes_of(cw, ch), r);
+            Job::Crop { layout, w, h, x, y, cw, ch, pixels, out, px }
+        }
+        6 => {
+            let plane = off_length(bytes_of(w, h) / 4, r);
+            Job::Plane { layout, w, h, pixels, plane, px }
+        }
+        7 => Job::Flag { layout, w, h, pixels, px },
+        _ => Job::Scaled { w, h, tw: wrong_side(tw0, r), th: wrong_side(th0, r) },
+    }
+}
+
+/// Starts with sizes, crops and work values that may be wrong.
+fn bad_start(r: &mut Random) -> Job {
+    let mut s = full(r.below(3), r.within(1, 6), r.within(1, 6), r.within(1, 6), r.within(1, 6));
+    crop_at_edge(&mut s, r);
+    for _ in 0..r.below(3) {
+        match r.below(8) {
+            0 => s.w = r.of(&[0, 16385, u32::MAX]),
+            1 => s.h = r.of(&[0, 16385, u32::MAX]),
+            2 => s.x = r.of(&[s.x.wrapping_add(1), s.w, u32::MAX]),
+            3 => s.y = r.of(&[s.y.wrapping_add(1), s.h, u32::MAX]),
+            4 => s.cw = r.of(&[0, s.cw.wrapping_add(1), 16385, u32::MAX]),
+            5 => s.ch = r.of(&[0, s.ch.wrapping_add(1), 16385, u32::MAX]),
+            6 => s.tw = r.of(&[0, 16385, u32::MAX]),
+            _ => s.th = r.of(&[0, 16385, u32::MAX]),
+        }
+    }
+    let need = 8 * s.tw.min(64) as usize;
+    let work = r.of(&[need, need, need + 1, need.saturating_sub(1), 0]);
+    if table::start(&s, work) == 0 {
+        // Large sides may have got through: keep to those that can be run.
+        if cost(&s) > 300_000 || work < 8 * s.tw as usize {
+            return bad_start(r);
+        }
+        return rows(&s, 0, r);
+    }
+    Job::Rows { sizes: s, work, px: r.pixels(), calls: Vec::new() }
+}
+
+/// Every alpha from 0 to 255, and every pair of an alpha and a colour.
+fn alphas(i: u64, r: &mut Random) -> Job {
+    let layout = (i % 3) as u32;
+    let seed = r.next() as u32;
+    match i / 3 {
+        0 => whole_with(&full(layout, 256, 256, 256, 256), Pixels { pattern: 8, seed }, 0),
+        1 => whole_with(&full(layout, 256, 256, 128, 256), Pixels { pattern: 8, seed }, 0),
+        2 => whole_with(&full(layout, 256, 256, 256, 511), Pixels { pattern: 8, seed }, 0),
+        _ => {
+            let (tw, th) = (r.of(&[1, 16, 100, 255, 256, 257, 300]), r.of(&[1, 1, 2, 3]));
+            whole_with(&full(layout, 256, r.within(1, 3), tw, th), Pixels { pattern: 7, seed }, 0)
+        }
+    }
+}
+
+/// The functions beside the job, called rightly.
+fn beside(r: &mut Random) -> Job {
+    let layout = r.below(3);
+    let px = r.pixels();
+    let (w, h) = (r.within(1, 20), r.within(1, 20));
+    let pixels = 4 * w as usize * h as usize;
+    match r.below(6) {
+        0 => {
+            let mut s = full(layout, w, h, 1, 1);
+            crop_at_edge(&mut s, r);
+            let out = 4 * s.cw as usize * s.ch as usize;
+            Job::Crop { layout, w, h, x: s.x, y: s.y, cw: s.cw, ch: s.ch, pixels, out, px }
+        }
+        1 => Job::Plane { layout, w, h, pixels, plane: pixels / 4, px },
+        2 => Job::Flag { layout, w, h, pixels, px },
+        3 => {
+            let bytes = r.below(200) as usize;
+            let out = if r.one_in(5) { bytes / 4 + 1 } else { bytes / 4 };
+            Job::Unpack { layout, bytes, out, px }
+        }
+        4 => {
+            let count = r.below(60) as usize;
+            let out = if r.one_in(5) { 4 * count + 4 } else { 4 * count };
+            Job::Pack { layout, count, out, px }
+        }
+        _ => {
+            let mut asked = || if r.one_in(2) { 0 } else { side(r) };
+            let (tw, th) = (asked(), asked());
+            Job::Scaled { w: side(r), h: side(r), tw, th }
+        }
+    }
+}
+
+/// Sums that wrap: few columns become many, over many rows.
+fn wraps(r: &mut Random) -> Job {
+    let tw = r.of(&[16384, 16384, 16383, 12000, 9000]);
+    let th = r.of(&[1, 1, 1, 2, 3]);
+    let edge = ((u64::from(th) << 32) / (255 * u64::from(tw - 1))) as u32;
+    let h = (edge + r.of(&[0, 1, 2, 3, 50, 400])).min(16384);
+    let s = full(r.below(3), r.within(1, 3), h, tw, th);
+    let px = Pixels { pattern: r.of(&[0, 1, 2, 4, 6, 9, 9]), seed: r.next() as u32 };
+    if r.one_in(2) {
+        return whole_with(&s, px, 0);
+    }
+    let row = 4 * s.w as usize;
+    let (out, work) = (4 * tw as usize, 8 * tw as usize);
+    let mut calls = Vec::new();
+    let (mut k, mut t) = (0, 0);
+    while t < th {
+        if table::made(&s, k) > t {
+            calls.push(Call::Take { out, work });
+            t += 1;
+        } else {
+            let n = h - k;
+            calls.push(Call::Offer { from: k as usize * row, len: n as usize * row, work });
+            while k < h && table::made(&s, k) <= t {
+                k += 1;
+            }
+        }
+    }
+    Job::Rows { sizes: s, work, px, calls }
+}
+
+/// The widest strips, around the height at which white sums wrap, and taller.
+fn strips(i: u64, r: &mut Random) -> Job {
+    let white = Pixels { pattern: 6, seed: 0 };
+    let (h, tw, th, px) = match i {
+        0 => (1028, 1, 1, white),
+        1 => (1029, 1, 1, white),
+        2 => (256, 3, 5, r.pixels()),
+        3 => (1028, 1, 1, r.pixels()),
+        4 => (1029, 2, 1, Pixels { pattern: 4, seed: 7 }),
+        5 => (1100, 7, 1, r.pixels()),
+        6 => (1500, 1, 1, Pixels { pattern: 6, seed: 0 }),
+        7 => (2058, 5, 2, Pixels { pattern: 5, seed: 3 }),
+        _ => (r.within(1020, 1400), r.within(1, 40), r.within(1, 2), r.pixels()),
+    };
+    let w = if i < 8 { 16384 } else { r.within(12000, 16384) };
+    whole_with(&full((i % 3) as u32, w, h, tw, th), px, 1)
+}

@@ -1,0 +1,215 @@
+//! Sends the same jobs to every side and holds each answer against the original's.
+//!
+//! The original judges everywhere. libwebp must agree where no sum can wrap; elsewhere its differences are counted, and each
+//! must be the one that its 32-bit restore explains.
+use crate::job::Job;
+use crate::{jobs, original};
+use std::collections::BTreeMap;
+use std::io::{BufRead, BufReader, BufWriter, Write};
+use std::process::{Child, Command, Stdio};
+use std::sync::Arc;
+use std::sync::mpsc::{Receiver, RecvError, SyncSender, sync_channel};
+use std::thread::JoinHandle;
+use std::time::Instant;
+
+/// A job with the original's answer, and what libwebp's is to be.
+struct Judged {
+    job: Job,
+    line: String,
+    answer: String,
+    three: String,
+}
+
+#[derive(Clone, Copy, PartialEq)]
+enum Side {
+    Libwebp,
+    Ours,
+}
+
+#[derive(Default)]
+struct Count {
+    asked: u64,
+    left_out: BTreeMap<String, u64>,
+    explained: u64,
+    wrapping: u64,
+    differ: u64,
+    smallest: Vec<(u64, String, String, String)>,
+}
+
+impl Count {
+    fn differs(&mut self, j: &Judged, got: &str) {
+        self.differ += 1;
+        if self.differ == 1 {
+            // The rest, smallest first, at the end: a long run says at once that there is one.
+            eprintln!("a difference: {}", cut(&j.line));
+        }
+        self.smallest.push((j.job.weight(), j.line.clone(), j.answer.clone(), got.to_owned()));
+        self.smallest.sort_by_key(|s| (s.0, s.1.len()));
+        self.smallest.truncate(5);
+    }
+}
+
+struct Driver {
+    name: &'static str,
+    child: Child,
+    to_writer: SyncSender<Option<Arc<Judged>>>,
+    to_reader: SyncSender<Option<Arc<Judged>>>,
+    writer: JoinHandle<()>,
+    reader: JoinHandle<Count>,
+}
+
+fn hold(side: Side, j: &Judged, got: &str, count: &mut Count) {
+    if got == "-" {
+        *count.left_out.entry(j.line.split(' ').next().unwrap().to_owned()).or_default() += 1;
+        return;
+    }
+    count.asked += 1;
+    if side == Side::Ours {
+        if got != j.answer {
+            count.differs(j, got);
+        }
+        return;
+    }
+    let wrapping = j.job.may_wrap();
+    count.wrapping += u64::from(wrapping);
+    if got == j.three {
+        return;
+    }
+    if wrapping && original::with_c_restore(&j.job).as_deref() == Some(got) {
+        count.explained += 1;
+    } else {
+        count.differs(j, got);
+    }
+}
+
+fn read_answers(side: Side, input: impl std::io::Read, jobs: Receiver<Option<Arc<Judged>>>) -> Count {
+    let mut lines = BufReader::with_capacity(1 << 20, input);
+    let mut count = Count::default();
+    let mut got = String::new();
+    while let Ok(Some(j)) = jobs.recv() {
+        got.clear();
+        match lines.read_line(&mut got) {
+            Ok(n) if n > 0 => hold(side, &j, got.trim_end_matches('\n'), &mut count),
+            _ => {
+                count.differs(&j, "(no answer: the driver ended)");
+                while let Ok(Some(_)) = jobs.recv() {}
+                return count;
+            }
+        }
+    }
+    got.clear();
+    if lines.read_line(&mut got).is_ok_and(|n| n > 0) {
+        count.differ += 1;
+        count.smallest.push((0, "(after the last job)".into(), String::new(), got));
+    }
+    count
+}
+
+impl Driver {
+    fn start(name: &'static str, side: Side, command: &str) -> Driver {
+        let mut child = Command::new("sh")
+            .args(["-c", &format!("exec {command}")])
+            .stdin(Stdio::piped())
+            .stdout(Stdio::piped())
+            .spawn()
+            .unwrap_or_else(|e| panic!("{command}: {e}"));
+        let mut input = BufWriter::with_capacity(1 << 16, child.stdin.take().unwrap());
+        let output = child.stdout.take().unwrap();
+        let (to_writer, work) = sync_channel::<Option<Arc<Judged>>>(64);
+        let (to_reader, due) = sync_channel::<Option<Arc<Judged>>>(64);
+        let writer = std::thread::spawn(move || {
+            // What is written is flushed before each wait, as a driver flushes each answer: neither side waits for the other.
+            while let Ok(Some(j)) = work.try_recv().or_else(|_| input.flush().map_err(|_| RecvError).and_then(|()| work.recv())) {
+                if writeln!(input, "{}", j.line).is_err() {
+                    break;
+                }
+            }
+            let _ = input.flush();
+            drop(input);
+            while let Ok(Some(_)) = work.recv() {}
+        });
+        let reader = std::thread::spawn(move || read_answers(side, output, due));
+        Driver { name, child, to_writer, to_reader, writer, reader }
+    }
+
+    fn finish(mut self) -> (&'static str, Count) {
+        let _ = self.to_writer.send(None);
+        drop(self.to_writer);
+        let _ = self.to_reader.send(None);
+        self.writer.join().unwrap();
+        let mut count = self.reader.join().unwrap();
+        let status = self.child.wait().unwrap();
+        if !status.success() {
+            count.differ += 1;
+            count.smallest.push((0, format!("(the driver ended with {status})"), String::new(), String::new()));
+        }
+        (self.name, count)
+    }
+}
+
+fn cut(s: &str) -> String {
+    if s.len() > 300 { format!("{} .. ({} bytes)", &s[..300], s.len()) } else { s.to_owned() }
+}
+
+/// Runs `sets` (name and count); true where all agree.
+pub fn run(sets: &[(&str, u64)], seed: u64, libwebp: Option<&str>, ours: Option<&str>) -> bool {
+    let mut drivers = Vec::new();
+    drivers.extend(libwebp.map(|c| Driver::start("libwebp", Side::Libwebp, c)));
+    drivers.extend(ours.map(|c| Driver::start("ours", Side::Ours, c)));
+    let (mut total, mut own) = (0, 0);
+    let begun = Instant::now();
+    for &(set, count) in sets {
+        let since = Instant::now();
+        let mut random = jobs::Random(seed);
+        random.0 = random.next() ^ set.bytes().fold(0, |h: u64, b| h.wrapping_mul(31).wrapping_add(u64::from(b)));
+        let mut numbers = [0u64; 10];
+        for i in 0..count {
+            let job = jobs::make(set, i, &mut random);
+            let (line, (answer, three)) = (job.to_string(), original::answer(&job));
+            if answer.starts_with('!') {
+                own += 1;
+                println!("original: {}\n  {answer}", cut(&line));
+            } else {
+                tally(&job, &answer, &mut numbers);
+            }
+            let judged = Arc::new(Judged { job, line, answer, three });
+            for d in &drivers {
+                let _ = d.to_writer.send(Some(judged.clone()));
+                let _ = d.to_reader.send(Some(judged.clone()));
+            }
+        }
+        total += count;
+        println!("{set:>11} {count:>8} jobs {:>6.1} s  calls by number 0 to 9: {numbers:?}", since.elapsed().as_secs_f64());
+    }
+    let mut agree = own == 0;
+    for (name, c) in drivers.into_iter().map(Driver::finish) {
+        agree &= c.differ == 0 && c.asked > 0;
+        println!("{name}: {} of {total} jobs asked, {} differ", c.asked, c.differ);
+        if name == "libwebp" {
+            println!("{name}: of {} jobs whose sums may wrap, {} differ as the 32-bit restore explains", c.wrapping, c.explained);
+        }
+        if !c.left_out.is_empty() {
+            println!("{name}: not asked: {}", c.left_out.iter().map(|(kind, n)| format!("{kind} {n}")).collect::<Vec<_>>().join(", "));
+        }
+        for (_, line, want, got) in &c.smallest {
+            println!("  job      {}\n  original {}\n  {name:8} {}", cut(line), cut(want), cut(got));
+        }
+    }
+    println!(
+        "{total} jobs judged by the original in {:.0} s, seed {seed}: {}",
+        begun.elapsed().as_secs_f64(),
+        if agree { "all agree" } else { "DIFFERENCES" }
+    );
+    agree
+}
+
+/// Counts the number of each call that an answer holds.
+fn tally(job: &Job, answer: &str, numbers: &mut [u64; 10]) {
+    let words: Vec<&str> = answer.split(' ').collect();
+    let mut add = |w: &str| numbers[w.parse::<usize>().unwrap()] += 1;
+    add(words[0]);
+    if let Job::Rows { .. } = job {
+        // After the start's two words, four for each call, and one at the end.
+        words[2..words.len() - 1].chunks(4).for_each(|call| add(call[0]));
+    }
+}

@@ -1,0 +1,145 @@
+//! Document 01's "Why a call is turned away" and "The job": which number a call gets, and how many rows are ready.
+//! The original cannot express most of these calls (its pictures always have whole buffers, and it has no record),
+//! so this table judges them; where it can, original.rs holds the table against it.
+use crate::job::{FLAG, K, Record, Sizes, T};
+
+pub const MAX_SIDE: u32 = 16384;
+
+fn side_ok(s: u32) -> bool {
+    (1..=MAX_SIDE).contains(&s)
+}
+
+fn pixels_of(w: u32, h: u32) -> usize {
+    w as usize * h as usize
+}
+
+/// 0, 1 or 2 for a source, a crop and, where there is one, a target.
+pub fn sizes(s: &Sizes, target: bool) -> u32 {
+    let sides = side_ok(s.w) && side_ok(s.h) && (!target || side_ok(s.tw) && side_ok(s.th));
+    if !sides || s.cw == 0 || s.ch == 0 {
+        return 1;
+    }
+    let beyond = |at: u32, len: u32, side: u32| u64::from(at) + u64::from(len) > u64::from(side);
+    if beyond(s.x, s.cw, s.w) || beyond(s.y, s.ch, s.h) {
+        return 2;
+    }
+    0
+}
+
+/// The first cause that applies, in ascending order.
+fn first(causes: &[(bool, u32)]) -> u32 {
+    causes.iter().find(|c| c.0).map_or(0, |c| c.1)
+}
+
+pub fn resize(s: &Sizes, pixels: usize, out: usize, work: usize) -> u32 {
+    match sizes(s, true) {
+        0 => first(&[(pixels != 4 * pixels_of(s.w, s.h), 3), (out != 4 * pixels_of(s.tw, s.th), 4), (work < 8 * s.tw as usize, 5)]),
+        n => n,
+    }
+}
+
+pub fn crop(s: &Sizes, pixels: usize, out: usize) -> u32 {
+    match sizes(s, false) {
+        0 => first(&[(pixels != 4 * pixels_of(s.w, s.h), 3), (out != 4 * pixels_of(s.cw, s.ch), 4)]),
+        n => n,
+    }
+}
+
+/// A picture alone, as the alpha flag takes it.
+pub fn picture(w: u32, h: u32, pixels: usize) -> u32 {
+    if !(side_ok(w) && side_ok(h)) {
+        return 1;
+    }
+    first(&[(pixels != 4 * pixels_of(w, h), 3)])
+}
+
+pub fn plane(w: u32, h: u32, pixels: usize, plane: usize) -> u32 {
+    match picture(w, h, pixels) {
+        0 => first(&[(plane != pixels_of(w, h), 3)]),
+        n => n,
+    }
+}
+
+pub fn start(s: &Sizes, work: usize) -> u32 {
+    match sizes(s, true) {
+        0 => first(&[(work < 8 * s.tw as usize, 5)]),
+        n => n,
+    }
+}
+
+/// How many of the crop's rows the first k source rows hold.
+pub fn used(s: &Sizes, k: u32) -> u32 {
+    k.saturating_sub(s.y).min(s.ch)
+}
+
+/// R(k): the output rows that k accepted rows make ready in all.
+pub fn made(s: &Sizes, k: u32) -> u32 {
+    let (u, h, g) = (used(s, k), s.ch, s.th);
+    if g <= h {
+        u * g / h
+    } else if u == 0 {
+        0
+    } else if h == 1 {
+        g
+    } else {
+        1 + (u - 1) * (g - 1) / (h - 1)
+    }
+}
+
+pub fn record_ok(r: &Record) -> bool {
+    let s = Sizes::of(r);
+    if sizes(&s, true) != 0 || r[K] > s.h || r[2] > 2 || r[FLAG] > 1 {
+        return false;
+    }
+    let least = if r[K] == 0 { 0 } else { made(&s, r[K] - 1) };
+    let most = if r[K] == 0 { 0 } else { made(&s, r[K]) };
+    least <= r[T] && r[T] <= most && !(r[FLAG] == 1 && r[T] == 0)
+}
+
+/// Order 6, 3, 5, 7, 8.
+pub fn offer(r: &Record, len: usize, work: usize) -> u32 {
+    if !record_ok(r) {
+        return 6;
+    }
+    let s = Sizes::of(r);
+    let row = 4 * s.w as usize;
+    first(&[(len == 0 || len % row != 0, 3), (work < 8 * s.tw as usize, 5), (made(&s, r[K]) > r[T], 7), (r[K] == s.h, 8)])
+}
+
+/// Order 6, 4, 5, 9.
+pub fn take(r: &Record, out: usize, work: usize) -> u32 {
+    if !record_ok(r) {
+        return 6;
+    }
+    let s = Sizes::of(r);
+    first(&[(out != 4 * s.tw as usize, 4), (work < 8 * s.tw as usize, 5), (made(&s, r[K]) == r[T], 9)])
+}
+
+/// "A row goes out" by its formulas: the lanes, and whether a value reaches 2^31. The original casts values to i32 before it cuts
+/// them at 255, so it takes such a one for negative; work values that rows made never bring one, a caller's own may.
+pub fn row_out(s: &Sizes, work: &[u32], t: u32, u: u32) -> (Vec<u8>, bool) {
+    let half = 4 * s.tw as usize;
+    let (n, m, h, g) = (u64::from(s.cw), u64::from(s.tw), u64::from(s.ch), u64::from(s.th));
+    let (t, u) = (u64::from(t), u64::from(u));
+    let span = if m <= n { n } else { m - 1 };
+    let frac = |a: u64, d: u64| u64::from(((a << 32) / d) as u32);
+    let mult = |a: u64, b: u64| ((u128::from(a) * u128::from(b) + (1 << 31)) >> 32) as u64;
+    let lane = |x: usize| -> u64 {
+        let (first, second) = (work[x], work[half + x]);
+        if g <= h {
+            let d = u * g - (t + 1) * h;
+            let q = (g << 32) / (span * h);
+            let f = u64::from(second) * (frac(1, g) * d % (1 << 32)) >> 32;
+            if q == 1 << 32 { u64::from(first) % 256 } else { mult(u64::from(first.wrapping_sub(f as u32)), q) }
+        } else {
+            let d = (u - 1) * (g - 1) - t * (h - 1);
+            let b = frac(d, g - 1);
+            let (newer, older) = if (u - 1) % 2 == 0 { (second, first) } else { (first, second) };
+            let blend = u128::from((1 << 32) - b) * u128::from(newer) + u128::from(b) * u128::from(older);
+            let j = if d == 0 { u64::from(newer) } else { ((blend + (1 << 31)) >> 32) as u64 };
+            mult(j, frac(1, span))
+        }
+    };
+    let values: Vec<u64> = (0..half).map(lane).collect();
+    (values.iter().map(|&v| v.min(255) as u8).collect(), values.iter().any(|&v| v >= 1 << 31))
+}
