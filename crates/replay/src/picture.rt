@@ -1,7 +1,7 @@
 // The pixels that a pattern and a seed stand for, and the checksum (oracle/README.md).
 
 // The checksum of no bytes, FNV-1a's.
-pub const EMPTY: u32 = 2166136261;
+pub(crate) const EMPTY: u32 = 2166136261;
 
 fn step(s: u32) -> u32 {
     std::num::wrapping_add_u32(arithmetic::wrapping_mul(s, 1664525), 1013904223)
@@ -60,7 +60,7 @@ fn value(pattern: u32, place: usize, first: u32, j: usize, s: u32) -> u8 {
 }
 
 // Fills a row that starts with pixel `first`; returns the generator's state after it.
-pub fn fill(row: &mut [u8], place: usize, pattern: u32, first: u32, seed: u32) -> u32 {
+pub(crate) fn fill(row: &mut [u8], place: usize, pattern: u32, first: u32, seed: u32) -> u32 {
     let mut s = seed;
     let mut j = 0;
     while j < row.len() {
@@ -72,7 +72,7 @@ pub fn fill(row: &mut [u8], place: usize, pattern: u32, first: u32, seed: u32) -
 }
 
 // Fills an alpha plane.
-pub fn fill_plane(plane: &mut [u8], pattern: u32, seed: u32) {
+pub(crate) fn fill_plane(plane: &mut [u8], pattern: u32, seed: u32) {
     let mut s = std::num::wrapping_add_u32(seed, 1);
     let mut i = 0;
     while i < plane.len() {
@@ -87,7 +87,7 @@ fn mixed(h: u32, b: u8) -> u32 {
 }
 
 // The checksum of bytes after those that made h.
-pub fn check(h: u32, bytes: &[u8]) -> u32 {
+pub(crate) fn check(h: u32, bytes: &[u8]) -> u32 {
     let mut sum = h;
     let mut i = 0;
     while i < bytes.len() {

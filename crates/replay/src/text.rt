@@ -1,8 +1,8 @@
 // Reads the list's numbers.
 // A number, and where the text goes on.
-pub struct Read {
-    pub value: u32,
-    pub next: usize,
+pub(crate) struct Read {
+    pub(crate) value: u32,
+    pub(crate) next: usize,
 }
 
 fn is_digit(b: u8) -> bool {
@@ -30,7 +30,7 @@ fn with_digit(value: u32, digit: u8) -> u32 {
 }
 
 // The next decimal number from `at` on, modulo 2^32; 0 at the text's end.
-pub fn number(text: &[u8], at: usize) -> Read {
+pub(crate) fn number(text: &[u8], at: usize) -> Read {
     let mut i = skip(text, at);
     let mut value = 0u32;
     while i < text.len() {
@@ -45,7 +45,7 @@ pub fn number(text: &[u8], at: usize) -> Read {
 }
 
 // The next fifteen numbers; returns where the text goes on.
-pub fn entry(text: &[u8], at: usize, fields: &mut [u32; 15]) -> usize {
+pub(crate) fn entry(text: &[u8], at: usize, fields: &mut [u32; 15]) -> usize {
     let mut next = at;
     let mut j = 0;
     while j < 15 {
