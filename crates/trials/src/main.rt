@@ -1,0 +1,253 @@
+// Runs the trials of document 01 that are not proved, and one job offered in three ways. The file `stdout` holds what document 01 says:
+// pixels in hexadecimal, byte after byte; a size as width and height.
+use job::Job;
+use job::Offered;
+use job::Plan;
+use job::Started;
+use job::Taken;
+use pixels::Dimensions;
+use pixels::PixelLayout;
+use pixels::Rect;
+use pixels::Sized;
+ghost use Prim.Native.Nat.{_≤_};
+
+fn main() {
+    // "White 16384 by 1028 to 1 by 1: all 255. 16384 by 1029 to 1 by 1: all 0, the sums wrapped."
+    white(1028);
+    white(1029);
+    // "1 by 16384 scaled (2,0): 1": refused
+    scaled(1, 16384, 2, 0);
+    scaled(3, 2, 0, 1);
+    // 5 by 7 to 3 by 4 and to 7 by 11, offered in single rows, in all rows at once and in ragged cuts: the same bytes three times
+    cut(3, 4, 1, 0);
+    cut(3, 4, 7, 0);
+    cut(3, 4, 1, 3);
+    cut(7, 11, 1, 0);
+    cut(7, 11, 7, 0);
+    cut(7, 11, 1, 3);
+}
+
+// ---- a white picture, one row lent again and again
+
+fn white(height: u32) {
+    let row = [255u8; 65536];
+    let mut work = [0u32; 8];
+    let mut out = [1u8; 4];
+    let source = Dimensions {
+        width: 16384,
+        height: height,
+    };
+    let target = Dimensions {
+        width: 1,
+        height: 1,
+    };
+    let begun = begin(source, target, &mut work);
+    let full = offer_each(begun, height, &row, &mut work);
+    let answer = full.take(&mut out, &mut work);
+    let done = took(answer);
+    hex_line(&out);
+    count_line(done);
+}
+
+fn offer_each(begun: Job, times: u32, row: &[u8], work: &mut [u32]) -> Job {
+    let mut job = begun;
+    let mut i = 0u32;
+    while i < times {
+        let answer = job.offer(row, work);
+        job = fed(answer);
+        i += 1;
+    }
+    job
+}
+
+// ---- a job in cuts
+
+// Each turn offers a cut and takes a row; a call that is turned away leaves all as it was. 64 turns are more than 7 rows in and 11 out need.
+fn cut(width: u32, height: u32, rows: u32, ragged: u32) {
+    let mut pixels = [0u8; 140];
+    let mut work = [0u32; 56];
+    let mut out = [0u8; 308];
+    fill(&mut pixels);
+    let source = Dimensions {
+        width: 5,
+        height: 7,
+    };
+    let target = Dimensions {
+        width: width,
+        height: height,
+    };
+    let begun = begin(source, target, &mut work);
+    let done = turns(begun, rows, ragged, &pixels, &mut work, &mut out);
+    picture_line(width, height, &out);
+    count_line(done);
+}
+
+fn turns(
+    begun: Job,
+    rows: u32,
+    ragged: u32,
+    pixels: &[u8],
+    work: &mut [u32],
+    out: &mut [u8],
+) -> Job {
+    let mut job = begun;
+    let mut i = 0u32;
+    while i < 64 {
+        let next = offer_cut(job, cut_of(rows, ragged, i), pixels, work);
+        job = take_row(next, work, out);
+        i += 1;
+    }
+    job
+}
+
+// The rows of cut i: always `rows`, or `rows` and up to `ragged` - 1 more.
+fn cut_of(rows: u32, ragged: u32, i: u32) -> u32 {
+    if ragged == 0 {
+        return rows;
+    }
+    std::num::wrapping_add_u32(rows, i % ragged)
+}
+
+// The next rows that the job has not accepted, at most to the picture's end.
+fn offer_cut(job: Job, rows: u32, pixels: &[u8], work: &mut [u32]) -> Job {
+    let width = job.plan.source.width;
+    let at = place(width, job.accepted, pixels.len());
+    let end = place(
+        width,
+        std::num::wrapping_add_u32(job.accepted, rows),
+        pixels.len(),
+    );
+    if end < at {
+        return job;
+    }
+    let answer = job.offer(&pixels[at..end], work);
+    fed(answer)
+}
+
+// The next row, at its place in the preview.
+fn take_row(job: Job, work: &mut [u32], out: &mut [u8]) -> Job {
+    let width = job.plan.target.width;
+    let at = place(width, job.taken, out.len());
+    let end = place(width, std::num::wrapping_add_u32(job.taken, 1), out.len());
+    if end < at {
+        return job;
+    }
+    let answer = job.take(&mut out[at..end], work);
+    took(answer)
+}
+
+// Where row k starts, or the end of the bytes where that is before it.
+fn place(width: u32, k: u32, len: usize) -> usize
+    ensures { λ r. ⌜ r ≤ len ⌝ }
+{
+    let pixel = width as usize * k as usize;
+    if len / 4 < pixel {
+        return len;
+    }
+    4 * pixel
+}
+
+// Colours and alphas of every size.
+fn fill(pixels: &mut [u8]) {
+    let mut i = 0;
+    while i < pixels.len() {
+        pixels[i] = (((i % 251) * 37 + 11) % 256) as u8;
+        i += 1;
+    }
+}
+
+// ---- answers
+
+// A fresh job with the full crop. A refusal is written, and the record of it turns every call away.
+fn begin(source: Dimensions, target: Dimensions, work: &mut [u32]) -> Job {
+    let crop = Rect {
+        x: 0,
+        y: 0,
+        width: source.width,
+        height: source.height,
+    };
+    let started = job::start(source, PixelLayout::Rgba8, crop, target, work);
+    match started {
+        Started::Fresh { job } => job,
+        Started::Refused { why: _ } => {
+            io::write_all(1, b"refused\n");
+            Job {
+                plan: Plan {
+                    source: source,
+                    layout: PixelLayout::Rgba8,
+                    crop: crop,
+                    target: target,
+                },
+                accepted: 0,
+                taken: 0,
+                flag: true,
+            }
+        }
+    }
+}
+
+fn fed(answer: Offered) -> Job {
+    match answer {
+        Offered::Accepted { rows: _, job } => job,
+        Offered::Refused { why: _, job } => job,
+    }
+}
+
+fn took(answer: Taken) -> Job {
+    match answer {
+        Taken::Wrote { job } => job,
+        Taken::Refused { why: _, job } => job,
+    }
+}
+
+fn scaled(w: u32, h: u32, width: u32, height: u32) {
+    let size = Dimensions {
+        width: w,
+        height: h,
+    };
+    let answer = size.scaled(width, height);
+    match answer {
+        Sized::Size(size) => {
+            io::print_decimal(1, size.width as u64);
+            io::write_all(1, b" by ");
+            io::print_decimal(1, size.height as u64);
+            io::write_all(1, b"\n");
+        }
+        Sized::Refused(_) => {
+            io::write_all(1, b"refused\n");
+        }
+    }
+}
+
+// ---- writing
+
+// The first width × height pixels.
+fn picture_line(width: u32, height: u32, bytes: &[u8]) {
+    let end = place(width, height, bytes.len());
+    hex_line(&bytes[..end]);
+}
+
+fn hex_line(bytes: &[u8]) {
+    let mut i = 0;
+    while i < bytes.len() {
+        io::print_hex(1, wide(bytes[i]), 2);
+        i += 1;
+    }
+    io::write_all(1, b"\n");
+}
+
+fn wide(x: u8) -> u64 {
+    x as u64
+}
+
+// Rows accepted, rows taken and the flag.
+fn count_line(job: Job) {
+    io::print_decimal(1, job.accepted as u64);
+    io::write_all(1, b" accepted, ");
+    io::print_decimal(1, job.taken as u64);
+    if job.flag {
+        io::write_all(1, b" taken, flag true\n");
+    } else {
+        io::write_all(1, b" taken, flag false\n");
+    }
+}
