@@ -11,8 +11,8 @@ use pixels::PixelLayout;
 use pixels::Rect;
 use pixels::Refusal;
 use pixels::Sized;
-use pixels::apply_alpha_plane;
-use pixels::crop;
+use pictures::apply_alpha_plane;
+use pictures::crop;
 
 mod picture;
 mod text;
