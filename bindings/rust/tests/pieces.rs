@@ -154,6 +154,9 @@ fn a_row_that_is_not_taken_holds_the_bytes_back() {
     }
     let mut rows = preview.next_row().unwrap().to_vec();
     assert_eq!(preview.push(&picture[4..]), Ok(4));
+    // The last row is ready: one byte more makes the preview look, and it is not done by that.
+    assert_eq!(preview.push(&[0]), Err(PreviewError::RowReady));
+    assert!(!preview.is_done());
     assert_eq!(preview.finish(), Err(PreviewError::RowReady));
     rows.extend_from_slice(preview.next_row().unwrap());
     assert_eq!(rows, whole(source, PixelLayout::Rgba8, Rect::of(source), source, &picture).into_pixels());
