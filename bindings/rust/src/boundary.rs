@@ -1,0 +1,224 @@
+//! The C boundary (`include/jonquilsaw.h`) behind safe functions: all of the crate's `unsafe` is here.
+//!
+//! Each function takes slices and hands the library a pointer and a count for each, so the library's one demand holds by Rust's own rules: live memory for so many
+//! elements, aligned, and shared with no other slice of the call that is written. The library touches nothing else, keeps no pointer and never
+//! unwinds; that is proved of it. The counts of 12 words and of one or two answer words are fixed here by array types.
+#![allow(unsafe_code)]
+
+use crate::error::Error;
+
+/// The words of a job's record.
+pub type Record = [u32; 12];
+
+mod raw {
+    // Raw pointers and counts, never slices: a slice in an extern declaration is not passed as the library takes it, and the call crashes.
+    unsafe extern "C" {
+        pub fn jonquilsaw_start(
+            source_width: u32,
+            source_height: u32,
+            layout: u32,
+            crop_x: u32,
+            crop_y: u32,
+            crop_width: u32,
+            crop_height: u32,
+            target_width: u32,
+            target_height: u32,
+            work: *mut u32,
+            work_count: usize,
+            record: *mut u32,
+            record_count: usize,
+        ) -> u32;
+        pub fn jonquilsaw_offer(
+            record: *mut u32,
+            record_count: usize,
+            rows: *const u8,
+            rows_count: usize,
+            work: *mut u32,
+            work_count: usize,
+            count: *mut u32,
+            count_count: usize,
+        ) -> u32;
+        pub fn jonquilsaw_take(record: *mut u32, record_count: usize, out: *mut u8, out_count: usize, work: *mut u32, work_count: usize) -> u32;
+        pub fn jonquilsaw_crop(
+            source_width: u32,
+            source_height: u32,
+            layout: u32,
+            crop_x: u32,
+            crop_y: u32,
+            crop_width: u32,
+            crop_height: u32,
+            pixels: *const u8,
+            pixels_count: usize,
+            out: *mut u8,
+            out_count: usize,
+            flag: *mut u32,
+            flag_count: usize,
+        ) -> u32;
+        pub fn jonquilsaw_resize(
+            source_width: u32,
+            source_height: u32,
+            layout: u32,
+            target_width: u32,
+            target_height: u32,
+            pixels: *const u8,
+            pixels_count: usize,
+            out: *mut u8,
+            out_count: usize,
+            work: *mut u32,
+            work_count: usize,
+            flag: *mut u32,
+            flag_count: usize,
+        ) -> u32;
+        pub fn jonquilsaw_has_alpha(
+            width: u32,
+            height: u32,
+            layout: u32,
+            pixels: *const u8,
+            pixels_count: usize,
+            flag: *mut u32,
+            flag_count: usize,
+        ) -> u32;
+        pub fn jonquilsaw_apply_alpha_plane(
+            width: u32,
+            height: u32,
+            layout: u32,
+            pixels: *mut u8,
+            pixels_count: usize,
+            plane: *const u8,
+            plane_count: usize,
+            flag: *mut u32,
+            flag_count: usize,
+        ) -> u32;
+        pub fn jonquilsaw_scaled(width: u32, height: u32, target_width: u32, target_height: u32, size: *mut u32, size_count: usize) -> u32;
+    }
+}
+
+pub fn start(source: [u32; 2], layout: u32, crop: [u32; 4], target: [u32; 2], work: &mut [u32]) -> Result<Record, Error> {
+    let mut record: Record = [0; 12];
+    // SAFETY: `work` and `record` are exclusive borrows, so live, aligned and apart, each passed with its own length.
+    let number = unsafe {
+        raw::jonquilsaw_start(
+            source[0],
+            source[1],
+            layout,
+            crop[0],
+            crop[1],
+            crop[2],
+            crop[3],
+            target[0],
+            target[1],
+            work.as_mut_ptr(),
+            work.len(),
+            record.as_mut_ptr(),
+            record.len(),
+        )
+    };
+    Error::check(number).map(|()| record)
+}
+
+/// How many rows were accepted.
+pub fn offer(record: &mut Record, rows: &[u8], work: &mut [u32]) -> Result<u32, Error> {
+    let mut count = [0];
+    // SAFETY: `record`, `work` and `count` are exclusive borrows and `rows` is a shared one, so all are live, aligned and apart, each with its own length.
+    let number = unsafe {
+        raw::jonquilsaw_offer(
+            record.as_mut_ptr(),
+            record.len(),
+            rows.as_ptr(),
+            rows.len(),
+            work.as_mut_ptr(),
+            work.len(),
+            count.as_mut_ptr(),
+            count.len(),
+        )
+    };
+    Error::check(number).map(|()| count[0])
+}
+
+pub fn take(record: &mut Record, out: &mut [u8], work: &mut [u32]) -> Result<(), Error> {
+    // SAFETY: three exclusive borrows, so live, aligned and apart, each with its own length.
+    let number = unsafe { raw::jonquilsaw_take(record.as_mut_ptr(), record.len(), out.as_mut_ptr(), out.len(), work.as_mut_ptr(), work.len()) };
+    Error::check(number)
+}
+
+/// The alpha flag of what was copied.
+pub fn crop(source: [u32; 2], layout: u32, crop: [u32; 4], pixels: &[u8], out: &mut [u8]) -> Result<bool, Error> {
+    let mut flag = [0];
+    // SAFETY: `out` and `flag` are exclusive borrows and `pixels` is a shared one, so all are live, aligned and apart, each with its own length.
+    let number = unsafe {
+        raw::jonquilsaw_crop(
+            source[0],
+            source[1],
+            layout,
+            crop[0],
+            crop[1],
+            crop[2],
+            crop[3],
+            pixels.as_ptr(),
+            pixels.len(),
+            out.as_mut_ptr(),
+            out.len(),
+            flag.as_mut_ptr(),
+            flag.len(),
+        )
+    };
+    Error::check(number).map(|()| flag[0] != 0)
+}
+
+/// The alpha flag of the result.
+pub fn resize(source: [u32; 2], layout: u32, target: [u32; 2], pixels: &[u8], out: &mut [u8], work: &mut [u32]) -> Result<bool, Error> {
+    let mut flag = [0];
+    // SAFETY: `out`, `work` and `flag` are exclusive borrows and `pixels` is a shared one, so all are live, aligned and apart, each with its own length.
+    let number = unsafe {
+        raw::jonquilsaw_resize(
+            source[0],
+            source[1],
+            layout,
+            target[0],
+            target[1],
+            pixels.as_ptr(),
+            pixels.len(),
+            out.as_mut_ptr(),
+            out.len(),
+            work.as_mut_ptr(),
+            work.len(),
+            flag.as_mut_ptr(),
+            flag.len(),
+        )
+    };
+    Error::check(number).map(|()| flag[0] != 0)
+}
+
+pub fn has_alpha(size: [u32; 2], layout: u32, pixels: &[u8]) -> Result<bool, Error> {
+    let mut flag = [0];
+    // SAFETY: `flag` is an exclusive borrow and `pixels` a shared one, so both are live, aligned and apart, each with its own length.
+    let number = unsafe { raw::jonquilsaw_has_alpha(size[0], size[1], layout, pixels.as_ptr(), pixels.len(), flag.as_mut_ptr(), flag.len()) };
+    Error::check(number).map(|()| flag[0] != 0)
+}
+
+/// The alpha flag of the picture so made.
+pub fn apply_alpha_plane(size: [u32; 2], layout: u32, pixels: &mut [u8], plane: &[u8]) -> Result<bool, Error> {
+    let mut flag = [0];
+    // SAFETY: `pixels` and `flag` are exclusive borrows and `plane` is a shared one, so all are live, aligned and apart, each with its own length.
+    let number = unsafe {
+        raw::jonquilsaw_apply_alpha_plane(
+            size[0],
+            size[1],
+            layout,
+            pixels.as_mut_ptr(),
+            pixels.len(),
+            plane.as_ptr(),
+            plane.len(),
+            flag.as_mut_ptr(),
+            flag.len(),
+        )
+    };
+    Error::check(number).map(|()| flag[0] != 0)
+}
+
+pub fn scaled(size: [u32; 2], target: [u32; 2]) -> Result<[u32; 2], Error> {
+    let mut answer = [0; 2];
+    // SAFETY: `answer` is an exclusive borrow, so live and aligned, with its own length.
+    let number = unsafe { raw::jonquilsaw_scaled(size[0], size[1], target[0], target[1], answer.as_mut_ptr(), answer.len()) };
+    Error::check(number).map(|()| answer)
+}

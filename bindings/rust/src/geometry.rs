@@ -1,0 +1,56 @@
+//! The crop's window.
+
+use crate::image::Dimensions;
+
+/// A crop rectangle in source-pixel coordinates: the `width x height` window whose top-left corner sits at `(x, y)`.
+///
+/// It is held against the picture only where it is used, as in [`Image::crop`](crate::Image::crop).
+#[derive(Clone, Copy, PartialEq, Eq, Hash, Debug)]
+pub struct Rect {
+    x: u32,
+    y: u32,
+    width: u32,
+    height: u32,
+}
+
+impl Rect {
+    /// A window of `width x height` pixels with its top-left corner at `(x, y)`.
+    #[must_use]
+    pub const fn new(x: u32, y: u32, width: u32, height: u32) -> Self {
+        Self { x, y, width, height }
+    }
+
+    /// The window that is all of a picture of this size.
+    #[must_use]
+    pub const fn of(size: Dimensions) -> Self {
+        Self::new(0, 0, size.width(), size.height())
+    }
+
+    /// The left edge, in pixels from the source's left.
+    #[must_use]
+    pub const fn x(self) -> u32 {
+        self.x
+    }
+
+    /// The top edge, in pixels from the source's top.
+    #[must_use]
+    pub const fn y(self) -> u32 {
+        self.y
+    }
+
+    /// The width in pixels.
+    #[must_use]
+    pub const fn width(self) -> u32 {
+        self.width
+    }
+
+    /// The height in pixels.
+    #[must_use]
+    pub const fn height(self) -> u32 {
+        self.height
+    }
+
+    pub(crate) const fn words(self) -> [u32; 4] {
+        [self.x, self.y, self.width, self.height]
+    }
+}

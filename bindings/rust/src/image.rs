@@ -1,0 +1,442 @@
+//! Sizes, byte orders and whole pictures.
+
+use crate::boundary;
+use crate::error::{Error, Result};
+use crate::geometry::Rect;
+
+/// The largest side of a picture.
+pub const MAX_DIMENSION: u32 = 1 << 14;
+
+/// Bytes of a pixel.
+const PIXEL: usize = 4;
+
+/// A picture's size: both sides lie in `1..=16384`.
+#[derive(Clone, Copy, PartialEq, Eq, Hash, Debug)]
+pub struct Dimensions {
+    width: u32,
+    height: u32,
+}
+
+impl TryFrom<(u32, u32)> for Dimensions {
+    type Error = Error;
+
+    fn try_from((width, height): (u32, u32)) -> Result<Self> {
+        Self::new(width, height)
+    }
+}
+
+impl Dimensions {
+    /// A size, with both sides tested.
+    ///
+    /// # Errors
+    ///
+    /// [`Error::InvalidDimensions`] if a side is 0 or above 16,384.
+    pub const fn new(width: u32, height: u32) -> Result<Self> {
+        if width == 0 || width > MAX_DIMENSION || height == 0 || height > MAX_DIMENSION {
+            return Err(Error::InvalidDimensions);
+        }
+        Ok(Self { width, height })
+    }
+
+    /// The width in pixels.
+    #[must_use]
+    pub const fn width(self) -> u32 {
+        self.width
+    }
+
+    /// The height in pixels.
+    #[must_use]
+    pub const fn height(self) -> u32 {
+        self.height
+    }
+
+    /// How many pixels there are.
+    #[must_use]
+    pub const fn pixel_count(self) -> u64 {
+        self.width as u64 * self.height as u64
+    }
+
+    /// The bytes of one row: 4 × width.
+    #[must_use]
+    pub const fn row_len(self) -> usize {
+        PIXEL * self.width as usize
+    }
+
+    /// The bytes of all rows: 4 × width × height, at most 2^30.
+    #[must_use]
+    pub const fn byte_len(self) -> usize {
+        self.row_len() * self.height as usize
+    }
+
+    /// The work values of a job whose target has this size: 8 × width.
+    #[must_use]
+    pub const fn work_len(self) -> usize {
+        2 * PIXEL * self.width as usize
+    }
+
+    /// The size to scale to where a side of 0 is derived from the other, so that the ratio is kept; a derived side is rounded up.
+    ///
+    /// # Errors
+    ///
+    /// [`Error::InvalidDimensions`] if both sides are 0 or a side comes out above 16,384.
+    ///
+    /// ```
+    /// use jonquilsaw::{Dimensions, Error};
+    ///
+    /// let size = Dimensions::new(3, 2)?;
+    /// assert_eq!(size.scaled(0, 1), Dimensions::new(2, 1));
+    /// assert_eq!(size.scaled(0, 0), Err(Error::InvalidDimensions));
+    /// # Ok::<(), Error>(())
+    /// ```
+    pub fn scaled(self, width: u32, height: u32) -> Result<Self> {
+        boundary::scaled(self.words(), [width, height]).map(|[width, height]| Self { width, height })
+    }
+
+    pub(crate) const fn words(self) -> [u32; 2] {
+        [self.width, self.height]
+    }
+}
+
+/// The order of a pixel's bytes.
+#[derive(Clone, Copy, PartialEq, Eq, Hash, Debug, Default)]
+#[non_exhaustive]
+pub enum PixelLayout {
+    /// `R, G, B, A` (the default).
+    #[default]
+    Rgba8,
+    /// `A, R, G, B`.
+    Argb8,
+    /// `B, G, R, A`.
+    Bgra8,
+}
+
+impl PixelLayout {
+    /// Where the alpha byte stands in a pixel: 3, but 0 for `Argb8`.
+    #[must_use]
+    pub const fn alpha_byte_offset(self) -> usize {
+        match self {
+            Self::Rgba8 | Self::Bgra8 => 3,
+            Self::Argb8 => 0,
+        }
+    }
+
+    /// The library's word for it.
+    pub(crate) const fn word(self) -> u32 {
+        match self {
+            Self::Rgba8 => 0,
+            Self::Argb8 => 1,
+            Self::Bgra8 => 2,
+        }
+    }
+
+    pub(crate) const fn of_word(word: u32) -> Option<Self> {
+        match word {
+            0 => Some(Self::Rgba8),
+            1 => Some(Self::Argb8),
+            2 => Some(Self::Bgra8),
+            _ => None,
+        }
+    }
+}
+
+/// A picture that owns its pixels, with its alpha flag.
+///
+/// ```
+/// use jonquilsaw::{Dimensions, Image, PixelLayout, Rect};
+///
+/// // 3 by 1, opaque grey.
+/// let pixels = vec![10, 10, 10, 255, 21, 21, 21, 255, 30, 30, 30, 255];
+/// let image = Image::new(Dimensions::new(3, 1)?, PixelLayout::Rgba8, pixels)?;
+/// assert!(!image.has_alpha());
+/// assert_eq!(image.resize(Dimensions::new(2, 1)?).as_bytes(), [14, 14, 14, 255, 27, 27, 27, 255]);
+/// assert_eq!(image.crop(Rect::new(1, 0, 1, 1))?.as_bytes(), [21, 21, 21, 255]);
+/// # Ok::<(), jonquilsaw::Error>(())
+/// ```
+#[derive(Clone, PartialEq, Eq, Hash, Debug)]
+pub struct Image {
+    dims: Dimensions,
+    layout: PixelLayout,
+    pixels: Vec<u8>,
+    has_alpha: bool,
+}
+
+impl Image {
+    /// A picture from its bytes; the alpha flag is found by looking at every alpha byte.
+    ///
+    /// # Errors
+    ///
+    /// [`Error::PixelBufferMismatch`] if `pixels` isn't 4 × width × height bytes.
+    pub fn new(dims: Dimensions, layout: PixelLayout, pixels: Vec<u8>) -> Result<Self> {
+        let has_alpha = boundary::has_alpha(dims.words(), layout.word(), &pixels)?;
+        Ok(Self { dims, layout, pixels, has_alpha })
+    }
+
+    /// The size.
+    #[must_use]
+    pub const fn dimensions(&self) -> Dimensions {
+        self.dims
+    }
+
+    /// The width in pixels.
+    #[must_use]
+    pub const fn width(&self) -> u32 {
+        self.dims.width()
+    }
+
+    /// The height in pixels.
+    #[must_use]
+    pub const fn height(&self) -> u32 {
+        self.dims.height()
+    }
+
+    /// The byte order of [`Self::as_bytes`].
+    #[must_use]
+    pub const fn layout(&self) -> PixelLayout {
+        self.layout
+    }
+
+    /// The pixels, 4 × width × height bytes.
+    #[must_use]
+    pub fn as_bytes(&self) -> &[u8] {
+        &self.pixels
+    }
+
+    /// The pixels alone.
+    #[must_use]
+    pub fn into_pixels(self) -> Vec<u8> {
+        self.pixels
+    }
+
+    /// Whether any alpha byte isn't 255.
+    #[must_use]
+    pub const fn has_alpha(&self) -> bool {
+        self.has_alpha
+    }
+
+    /// The picture, borrowed.
+    #[must_use]
+    pub fn as_image_ref(&self) -> ImageRef<'_> {
+        ImageRef { dims: self.dims, layout: self.layout, pixels: &self.pixels }
+    }
+
+    /// Writes a plane of width × height bytes to the alpha bytes, and finds the flag anew.
+    ///
+    /// # Errors
+    ///
+    /// [`Error::PixelBufferMismatch`] if `alpha` isn't width × height bytes; the picture stays as it was.
+    pub fn apply_alpha_plane(&mut self, alpha: &[u8]) -> Result<()> {
+        self.has_alpha = boundary::apply_alpha_plane(self.dims.words(), self.layout.word(), &mut self.pixels, alpha)?;
+        Ok(())
+    }
+
+    /// A copy of the window `rect`, with its alpha flag found anew.
+    ///
+    /// # Errors
+    ///
+    /// [`Error::InvalidDimensions`] if `rect` is empty, [`Error::CropOutOfBounds`] if it does not lie inside the picture.
+    pub fn crop(&self, rect: Rect) -> Result<Self> {
+        // A window that fits has the sides of a size; one that doesn't is turned away with an empty buffer, since 1 and 2 come before 4.
+        let dims = Dimensions::new(rect.width(), rect.height());
+        let mut pixels = vec![0; if self.holds(rect) { dims.map_or(0, Dimensions::byte_len) } else { 0 }];
+        let has_alpha = self.as_image_ref().crop_into(rect, &mut pixels)?;
+        Ok(Self { dims: dims?, layout: self.layout, pixels, has_alpha })
+    }
+
+    /// The picture scaled to `target`.
+    #[must_use]
+    pub fn resize(&self, target: Dimensions) -> Self {
+        let mut pixels = vec![0; target.byte_len()];
+        let mut work = vec![0; target.work_len()];
+        let has_alpha =
+            self.as_image_ref().resize_into(target, &mut pixels, &mut work).expect("sizes are in range and every buffer has the library's length");
+        Self { dims: target, layout: self.layout, pixels, has_alpha }
+    }
+
+    fn holds(&self, rect: Rect) -> bool {
+        let edge = |from: u32, by: u32| u64::from(from) + u64::from(by);
+        edge(rect.x(), rect.width()) <= self.width().into() && edge(rect.y(), rect.height()) <= self.height().into()
+    }
+}
+
+/// A borrowed picture: size, layout and pixels. Its results go to buffers that the caller lends, so nothing is allocated.
+#[derive(Clone, Copy, Debug)]
+pub struct ImageRef<'a> {
+    dims: Dimensions,
+    layout: PixelLayout,
+    pixels: &'a [u8],
+}
+
+impl<'a> ImageRef<'a> {
+    /// Borrows `pixels` as a picture of size `dims`.
+    ///
+    /// # Errors
+    ///
+    /// [`Error::PixelBufferMismatch`] if `pixels` isn't 4 × width × height bytes.
+    pub const fn new(dims: Dimensions, layout: PixelLayout, pixels: &'a [u8]) -> Result<Self> {
+        if pixels.len() != dims.byte_len() {
+            return Err(Error::PixelBufferMismatch);
+        }
+        Ok(Self { dims, layout, pixels })
+    }
+
+    /// The size.
+    #[must_use]
+    pub const fn dimensions(self) -> Dimensions {
+        self.dims
+    }
+
+    /// The byte order of [`Self::as_bytes`].
+    #[must_use]
+    pub const fn layout(self) -> PixelLayout {
+        self.layout
+    }
+
+    /// The borrowed pixels.
+    #[must_use]
+    pub const fn as_bytes(self) -> &'a [u8] {
+        self.pixels
+    }
+
+    /// Whether any alpha byte isn't 255.
+    #[must_use]
+    pub fn has_alpha(self) -> bool {
+        boundary::has_alpha(self.dims.words(), self.layout.word(), self.pixels).expect("the size is in range and the pixels fit it")
+    }
+
+    /// Copies the window `rect` to `out` and returns its alpha flag.
+    ///
+    /// # Errors
+    ///
+    /// [`Error::InvalidDimensions`], [`Error::CropOutOfBounds`], or [`Error::OutputLength`] if `out` isn't 4 × width × height bytes of the window.
+    pub fn crop_into(self, rect: Rect, out: &mut [u8]) -> Result<bool> {
+        boundary::crop(self.dims.words(), self.layout.word(), rect.words(), self.pixels, out)
+    }
+
+    /// Scales the picture to `out` and returns the result's alpha flag.
+    ///
+    /// # Errors
+    ///
+    /// [`Error::OutputLength`] if `out` isn't [`target.byte_len()`](Dimensions::byte_len) bytes, [`Error::WorkLength`] if `work` has fewer than
+    /// [`target.work_len()`](Dimensions::work_len) values.
+    ///
+    /// ```
+    /// use jonquilsaw::{Dimensions, ImageRef, PixelLayout};
+    ///
+    /// let pixels = [10, 10, 10, 255, 20, 20, 20, 255];
+    /// let image = ImageRef::new(Dimensions::new(2, 1)?, PixelLayout::Rgba8, &pixels)?;
+    /// let (mut out, mut work) = ([0; 4], [0; 8]);
+    /// let has_alpha = image.resize_into(Dimensions::new(1, 1)?, &mut out, &mut work)?;
+    /// assert_eq!((out, has_alpha), ([15, 15, 15, 255], false));
+    /// # Ok::<(), jonquilsaw::Error>(())
+    /// ```
+    pub fn resize_into(self, target: Dimensions, out: &mut [u8], work: &mut [u32]) -> Result<bool> {
+        boundary::resize(self.dims.words(), self.layout.word(), target.words(), self.pixels, out, work)
+    }
+}
+
+#[cfg(test)]
+mod tests {
+    use super::*;
+
+    fn size(width: u32, height: u32) -> Dimensions {
+        Dimensions::new(width, height).unwrap()
+    }
+
+    fn grey(dims: Dimensions, greys: &[u8]) -> Image {
+        Image::new(dims, PixelLayout::Rgba8, greys.iter().flat_map(|&g| [g, g, g, 255]).collect()).unwrap()
+    }
+
+    #[test]
+    fn sides() {
+        for side in [0, 16385, u32::MAX] {
+            assert_eq!(Dimensions::new(side, 1), Err(Error::InvalidDimensions));
+            assert_eq!(Dimensions::try_from((1, side)), Err(Error::InvalidDimensions));
+        }
+        let largest = size(16384, 16384);
+        assert_eq!((largest.pixel_count(), largest.byte_len(), largest.row_len(), largest.work_len()), (1 << 28, 1 << 30, 1 << 16, 1 << 17));
+    }
+
+    #[test]
+    fn derived_sides() {
+        assert_eq!(size(3, 2).scaled(0, 1), Ok(size(2, 1)));
+        assert_eq!(size(3, 2).scaled(5, 7), Ok(size(5, 7)));
+        assert_eq!(size(1, 16384).scaled(2, 0), Err(Error::InvalidDimensions));
+    }
+
+    // Document 01's trials.
+    #[test]
+    fn trials() {
+        let greys = |image: &Image| image.as_bytes().chunks(4).map(|p| p[0]).collect::<Vec<_>>();
+        assert_eq!(greys(&grey(size(2, 1), &[10, 20]).resize(size(1, 1))), [15]);
+        assert_eq!(greys(&grey(size(2, 1), &[10, 21]).resize(size(1, 1))), [16]);
+        assert_eq!(greys(&grey(size(2, 1), &[10, 21]).resize(size(3, 1))), [10, 16, 21]);
+        assert_eq!(greys(&grey(size(3, 1), &[10, 21, 30]).resize(size(2, 1))), [14, 27]);
+        assert_eq!(grey(size(1, 1), &[9]).resize(size(1, 2)).as_bytes(), [0; 8]);
+        assert_eq!(grey(size(1, 1), &[9]).resize(size(2, 1)).as_bytes(), [9, 9, 9, 255, 9, 9, 9, 255]);
+        let white = grey(size(1, 6), &[255; 6]).resize(size(1, 5));
+        assert_eq!(white.as_bytes()[..16], [255; 16]);
+        assert_eq!(white.as_bytes()[16..], [255, 255, 255, 254]);
+        assert!(white.has_alpha());
+    }
+
+    #[test]
+    fn layouts() {
+        for (layout, pixel) in [(PixelLayout::Rgba8, [1, 2, 3, 255]), (PixelLayout::Argb8, [255, 1, 2, 3]), (PixelLayout::Bgra8, [3, 2, 1, 255])] {
+            assert_eq!(PixelLayout::of_word(layout.word()), Some(layout));
+            assert_eq!(pixel[layout.alpha_byte_offset()], 255);
+            let image = Image::new(size(1, 1), layout, pixel.to_vec()).unwrap();
+            assert!(!image.has_alpha());
+            assert_eq!(image.resize(size(2, 1)).as_bytes(), [pixel, pixel].concat());
+            let mut clear = pixel;
+            clear[layout.alpha_byte_offset()] = 254;
+            assert!(ImageRef::new(size(1, 1), layout, &clear).unwrap().has_alpha());
+        }
+        assert_eq!(PixelLayout::of_word(3), None);
+    }
+
+    #[test]
+    fn windows() {
+        let image = Image::new(size(3, 2), PixelLayout::Argb8, (0..24).collect()).unwrap();
+        let window = image.crop(Rect::new(1, 1, 2, 1)).unwrap();
+        assert_eq!((window.dimensions(), window.as_bytes()), (size(2, 1), &[16, 17, 18, 19, 20, 21, 22, 23][..]));
+        assert_eq!(image.crop(Rect::of(size(3, 2))).as_ref(), Ok(&image));
+        for (rect, error) in [
+            (Rect::new(0, 0, 0, 1), Error::InvalidDimensions),
+            (Rect::new(9, 0, 1, 0), Error::InvalidDimensions),
+            (Rect::new(2, 0, 2, 1), Error::CropOutOfBounds),
+            (Rect::new(0, 1, 1, 2), Error::CropOutOfBounds),
+            (Rect::new(u32::MAX, 0, 1, 1), Error::CropOutOfBounds),
+            (Rect::new(0, 0, 16385, 1), Error::CropOutOfBounds),
+            (Rect::new(0, 0, 16384, 16384), Error::CropOutOfBounds),
+        ] {
+            assert_eq!(image.crop(rect), Err(error), "{rect:?}");
+        }
+    }
+
+    #[test]
+    fn planes() {
+        let mut image = Image::new(size(2, 1), PixelLayout::Bgra8, vec![7; 8]).unwrap();
+        assert!(image.has_alpha());
+        assert_eq!(image.apply_alpha_plane(&[1]), Err(Error::PixelBufferMismatch));
+        assert_eq!(image.as_bytes(), [7; 8]);
+        image.apply_alpha_plane(&[255, 255]).unwrap();
+        assert_eq!((image.as_bytes(), image.has_alpha()), (&[7, 7, 7, 255, 7, 7, 7, 255][..], false));
+        image.apply_alpha_plane(&[255, 0]).unwrap();
+        assert!(image.has_alpha());
+    }
+
+    #[test]
+    fn wrong_lengths() {
+        assert_eq!(Image::new(size(2, 1), PixelLayout::Rgba8, vec![0; 7]), Err(Error::PixelBufferMismatch));
+        assert_eq!(ImageRef::new(size(2, 1), PixelLayout::Rgba8, &[0; 9]).err(), Some(Error::PixelBufferMismatch));
+        let image = ImageRef::new(size(2, 1), PixelLayout::Rgba8, &[255; 8]).unwrap();
+        let target = size(1, 1);
+        let (mut out, mut work) = ([7; 5], [9; 8]);
+        assert_eq!(image.resize_into(target, &mut out, &mut work), Err(Error::OutputLength));
+        assert_eq!(image.resize_into(target, &mut out[..4], &mut work[..7]), Err(Error::WorkLength));
+        assert_eq!(image.crop_into(Rect::new(0, 0, 1, 1), &mut out), Err(Error::OutputLength));
+        assert_eq!((out, work), ([7; 5], [9; 8]));
+        assert_eq!(image.resize_into(target, &mut out[..4], &mut work), Ok(false));
+        assert_eq!(out, [255, 255, 255, 255, 7]);
+    }
+}

@@ -1,0 +1,215 @@
+//! The library's job: whole rows in, a row out, in buffers that the caller lends.
+
+use crate::boundary::{self, Record};
+use crate::error::{Error, Result};
+use crate::geometry::Rect;
+use crate::image::{Dimensions, PixelLayout};
+
+/// A job that crops a source and scales it to a target, row by row.
+///
+/// It holds twelve words. The work values are lent to every call and must be those that the call before left: 8 × target width of them
+/// ([`Dimensions::work_len`]).
+///
+/// ```
+/// use jonquilsaw::{Dimensions, Error, Job, PixelLayout, Rect};
+///
+/// let (source, target) = (Dimensions::new(1, 2)?, Dimensions::new(1, 1)?);
+/// let mut work = [0; 8];
+/// let mut job = Job::start(source, PixelLayout::Rgba8, Rect::of(source), target, &mut work)?;
+///
+/// assert_eq!(job.offer(&[10, 10, 10, 255], &mut work), Ok(1));
+/// let mut row = [0; 4];
+/// assert_eq!(job.take(&mut row, &mut work), Err(Error::NoneReady)); // a row of the preview needs both source rows
+/// assert_eq!(job.offer(&[20, 20, 20, 255], &mut work), Ok(1));
+/// job.take(&mut row, &mut work)?;
+/// assert_eq!(row, [15, 15, 15, 255]);
+/// assert!(job.is_done());
+/// # Ok::<(), Error>(())
+/// ```
+#[derive(Clone, PartialEq, Eq, Hash, Debug)]
+pub struct Job {
+    record: Record,
+}
+
+impl Job {
+    /// Starts a job and clears its work values.
+    ///
+    /// # Errors
+    ///
+    /// [`Error::InvalidDimensions`] if the crop is empty, [`Error::CropOutOfBounds`] if it does not lie inside the source, [`Error::WorkLength`] if `work` has
+    /// fewer than [`target.work_len()`](Dimensions::work_len) values.
+    pub fn start(source: Dimensions, layout: PixelLayout, crop: Rect, target: Dimensions, work: &mut [u32]) -> Result<Self> {
+        boundary::start(source.words(), layout.word(), crop.words(), target.words(), work).map(|record| Self { record })
+    }
+
+    /// A job from the twelve words that [`Self::record`] gave, to go on elsewhere with a copy of the work values. Words that keep the library's rules
+    /// count, whoever filled them: source width and height, layout, crop x, y, width and height, target width and height, rows accepted, rows taken, alpha flag.
+    ///
+    /// # Errors
+    ///
+    /// [`Error::InvalidRecord`] if no job can have these words.
+    pub fn from_record(record: [u32; 12]) -> Result<Self> {
+        let mut job = Self { record };
+        // A take tests the record first and turns an empty row away next, so it leaves all as it was.
+        match boundary::take(&mut job.record, &mut [], &mut []) {
+            Err(Error::OutputLength) => Ok(job),
+            refused => Err(refused.err().unwrap_or(Error::InvalidRecord)),
+        }
+    }
+
+    /// The job's twelve words.
+    #[must_use]
+    pub const fn record(&self) -> [u32; 12] {
+        self.record
+    }
+
+    /// Offers one or more whole source rows, from the first that was not accepted yet, and returns how many were accepted, at least one. It stops at the first
+    /// row that makes a preview row ready and at the source's last: offer the rest after taking what is ready.
+    ///
+    /// # Errors
+    ///
+    /// [`Error::PixelBufferMismatch`] if `rows` is empty or no whole number of source rows, [`Error::WorkLength`], [`Error::RowReady`] if a preview row has to be
+    /// taken first, [`Error::AllAccepted`]. The job and `work` stay as they were.
+    pub fn offer(&mut self, rows: &[u8], work: &mut [u32]) -> Result<usize> {
+        boundary::offer(&mut self.record, rows, work).map(|count| count as usize)
+    }
+
+    /// Takes the next preview row.
+    ///
+    /// # Errors
+    ///
+    /// [`Error::OutputLength`] if `out` isn't exactly a row of the target, [`Error::WorkLength`], [`Error::NoneReady`]. The job, `out` and `work` stay as they
+    /// were.
+    pub fn take(&mut self, out: &mut [u8], work: &mut [u32]) -> Result<()> {
+        boundary::take(&mut self.record, out, work)
+    }
+
+    /// The source's size.
+    #[must_use]
+    pub fn source(&self) -> Dimensions {
+        self.size(0)
+    }
+
+    /// The byte order of rows in and rows out.
+    #[must_use]
+    pub fn layout(&self) -> PixelLayout {
+        PixelLayout::of_word(self.record[2]).expect("a job's layout is one of the three")
+    }
+
+    /// The window of the source that is scaled.
+    #[must_use]
+    pub const fn crop(&self) -> Rect {
+        Rect::new(self.record[3], self.record[4], self.record[5], self.record[6])
+    }
+
+    /// The preview's size.
+    #[must_use]
+    pub fn target(&self) -> Dimensions {
+        self.size(7)
+    }
+
+    /// Source rows accepted.
+    #[must_use]
+    pub const fn accepted(&self) -> u32 {
+        self.record[9]
+    }
+
+    /// Preview rows taken.
+    #[must_use]
+    pub const fn taken(&self) -> u32 {
+        self.record[10]
+    }
+
+    /// Whether an alpha byte other than 255 stood in a row taken.
+    #[must_use]
+    pub const fn has_alpha(&self) -> bool {
+        self.record[11] != 0
+    }
+
+    /// Whether every preview row was taken. Source rows below the crop may still be accepted.
+    #[must_use]
+    pub const fn is_done(&self) -> bool {
+        self.taken() == self.record[8]
+    }
+
+    fn size(&self, at: usize) -> Dimensions {
+        Dimensions::new(self.record[at], self.record[at + 1]).expect("a job's sizes are in range")
+    }
+}
+
+#[cfg(test)]
+mod tests {
+    use super::*;
+
+    fn job(work: &mut [u32]) -> Result<Job> {
+        Job::start(Dimensions::new(2, 3)?, PixelLayout::Bgra8, Rect::new(1, 1, 1, 2), Dimensions::new(1, 2)?, work)
+    }
+
+    #[test]
+    fn what_a_record_says() {
+        let mut job = job(&mut [7; 8]).unwrap();
+        assert_eq!(job.record(), [2, 3, 2, 1, 1, 1, 2, 1, 2, 0, 0, 0]);
+        assert_eq!((job.source(), job.target()), (Dimensions::new(2, 3).unwrap(), Dimensions::new(1, 2).unwrap()));
+        assert_eq!((job.layout(), job.crop()), (PixelLayout::Bgra8, Rect::new(1, 1, 1, 2)));
+        assert_eq!((job.accepted(), job.taken(), job.has_alpha(), job.is_done()), (0, 0, false, false));
+        // The first row lies above the crop, the second makes a preview row ready.
+        let mut work = [0; 8];
+        let rows: Vec<u8> = (0..24).collect();
+        assert_eq!(job.offer(&rows, &mut work), Ok(2));
+        assert_eq!((job.accepted(), job.taken()), (2, 0));
+        job.take(&mut [0; 4], &mut work).unwrap();
+        assert_eq!(job.offer(&rows[16..], &mut work), Ok(1));
+        job.take(&mut [0; 4], &mut work).unwrap();
+        assert!(job.is_done() && job.has_alpha());
+    }
+
+    #[test]
+    fn every_refusal_leaves_all_as_it_was() {
+        let mut work = [7; 8];
+        assert_eq!(job(&mut work[..7]), Err(Error::WorkLength));
+        let source = Dimensions::new(2, 3).unwrap();
+        for (crop, error) in [(Rect::new(0, 0, 0, 1), Error::InvalidDimensions), (Rect::new(1, 1, 2, 2), Error::CropOutOfBounds)] {
+            assert_eq!(Job::start(source, PixelLayout::Rgba8, crop, source, &mut work), Err(error));
+        }
+        assert_eq!(work, [7; 8]);
+        let mut job = job(&mut work).unwrap();
+        assert_eq!(work, [0; 8]);
+        let rows = [255; 24];
+        let mut out = [7; 5];
+        let refused = |job: &mut Job, out: &mut [u8; 5], work: &mut [u32; 8], ready: bool| {
+            let before = (job.clone(), *out, *work);
+            for bytes in [0, 7, 9] {
+                assert_eq!(job.offer(&rows[..bytes], work), Err(Error::PixelBufferMismatch));
+            }
+            assert_eq!(job.offer(&rows[..8], &mut work[..7]), Err(Error::WorkLength));
+            assert_eq!(job.take(out, work), Err(Error::OutputLength));
+            assert_eq!(job.take(&mut out[..4], &mut work[..7]), Err(Error::WorkLength));
+            if ready {
+                assert_eq!(job.offer(&rows, work), Err(Error::RowReady));
+            } else {
+                assert_eq!(job.take(&mut out[..4], work), Err(Error::NoneReady));
+            }
+            assert!(before == (job.clone(), *out, *work));
+        };
+        refused(&mut job, &mut out, &mut work, false);
+        assert_eq!(job.offer(&rows, &mut work), Ok(2));
+        refused(&mut job, &mut out, &mut work, true);
+        job.take(&mut out[..4], &mut work).unwrap();
+        assert_eq!(out, [255, 255, 255, 255, 7]);
+        assert_eq!(job.offer(&rows[..8], &mut work), Ok(1));
+        job.take(&mut out[..4], &mut work).unwrap();
+        assert_eq!(job.offer(&rows, &mut work), Err(Error::AllAccepted));
+        refused(&mut job, &mut out, &mut work, false);
+    }
+
+    #[test]
+    fn records_from_elsewhere() {
+        let fresh = job(&mut [0; 8]).unwrap();
+        assert_eq!(Job::from_record(fresh.record()), Ok(fresh.clone()));
+        for (at, word) in [(0, 0), (1, 16385), (2, 3), (5, 0), (6, 3), (7, 0), (9, 4), (10, 1), (11, 1), (11, 2)] {
+            let mut record = fresh.record();
+            record[at] = word;
+            assert_eq!(Job::from_record(record), Err(Error::InvalidRecord), "word {at} is {word}");
+        }
+    }
+}

@@ -1,0 +1,38 @@
+//! A picture scaler that takes source rows as they arrive and hands out preview rows as they become ready, byte for byte what webpkit's `Image::crop` and
+//! `Image::resize` make of the whole picture. The arithmetic is a library written and proved in Rattle; this crate is its Rust face, with no dependency.
+//!
+//! - [`Preview`] takes bytes in pieces of any length, as a socket delivers them, and hands out preview rows; [`PreviewWriter`] does so as a [`std::io::Write`].
+//! - [`Image`] and [`ImageRef`] hold whole pictures: [`Image::crop`], [`Image::resize`], [`Image::apply_alpha_plane`], with webpkit's names.
+//! - [`Job`] is the library's own job over lent buffers: whole rows in by [`Job::offer`], a row out by [`Job::take`], no heap.
+//! - [`Dimensions::scaled`] derives a target size from one side.
+//!
+//! Pixels are 4 bytes each in a [`PixelLayout`]'s order, rows stand one after another without gaps, and colours are not premultiplied by alpha.
+//!
+//! ```
+//! use jonquilsaw::{Dimensions, PixelLayout, Preview, Rect};
+//!
+//! // Two pixels side by side, scaled to one; the bytes come in pieces.
+//! let source = Dimensions::new(2, 1)?;
+//! let mut preview = Preview::new(source, PixelLayout::Rgba8, Rect::of(source), Dimensions::new(1, 1)?)?;
+//! let mut rows = Vec::new();
+//! for piece in [&[10, 10, 10][..], &[255, 20], &[20, 20, 255]] {
+//!     preview.feed(piece, |row| rows.extend_from_slice(row))?;
+//! }
+//! assert_eq!(rows, [15, 15, 15, 255]);
+//! assert!(preview.is_done());
+//! assert_eq!(preview.finish(), Ok(false)); // all bytes came, and no alpha byte but 255 went out
+//! # Ok::<(), Box<dyn std::error::Error>>(())
+//! ```
+
+mod boundary;
+mod error;
+mod geometry;
+mod image;
+mod job;
+mod preview;
+
+pub use error::{Error, Result};
+pub use geometry::Rect;
+pub use image::{Dimensions, Image, ImageRef, MAX_DIMENSION, PixelLayout};
+pub use job::Job;
+pub use preview::{Preview, PreviewError, PreviewWriter};

@@ -1,0 +1,49 @@
+//! A preview allocates its source row, its work rows and its preview row, and nothing while it runs.
+#![allow(unsafe_code)]
+
+use jonquilsaw::{Dimensions, PixelLayout, Preview, Rect};
+use std::alloc::{GlobalAlloc, Layout, System};
+use std::cell::Cell;
+
+struct Counting;
+
+thread_local! {
+    static ALLOCATED: Cell<usize> = const { Cell::new(0) };
+}
+
+// SAFETY: every call is handed on to the system's allocator as it came.
+unsafe impl GlobalAlloc for Counting {
+    unsafe fn alloc(&self, layout: Layout) -> *mut u8 {
+        ALLOCATED.with(|bytes| bytes.set(bytes.get() + layout.size()));
+        // SAFETY: the caller keeps the allocator's rules.
+        unsafe { System.alloc(layout) }
+    }
+
+    unsafe fn dealloc(&self, at: *mut u8, layout: Layout) {
+        // SAFETY: the caller keeps the allocator's rules.
+        unsafe { System.dealloc(at, layout) }
+    }
+}
+
+#[global_allocator]
+static COUNTING: Counting = Counting;
+
+fn allocated() -> usize {
+    ALLOCATED.with(Cell::get)
+}
+
+#[test]
+fn one_source_row_the_work_rows_and_one_preview_row() {
+    let (source, target) = (Dimensions::new(16384, 300).unwrap(), Dimensions::new(500, 9).unwrap());
+    let piece = vec![77; 5 * source.row_len() / 2 + 1];
+    let before = allocated();
+    let mut preview = Preview::new(source, PixelLayout::Rgba8, Rect::of(source), target).unwrap();
+    assert_eq!(allocated() - before, source.row_len() + 4 * target.work_len() + target.row_len());
+    let before = allocated();
+    let mut rows = 0;
+    while preview.missing() > 0 {
+        let length = piece.len().min(preview.missing());
+        preview.feed(&piece[..length], |_| rows += 1).unwrap();
+    }
+    assert_eq!((rows, allocated() - before), (9, 0));
+}
