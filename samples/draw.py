@@ -8,5 +8,5 @@ for y in range(height):
     for x in range(width):
         inside = (2 * x + 1 - width) ** 2 + (2 * y + 1 - height) ** 2 < min(width, height) ** 2
         alpha = 96 + 5 * y % 160 if inside else 255
-        rows += bytes((255 * x // (width - 1), 255 * y // (height - 1), 128, alpha))
+        rows += bytes((255 * x // max(width - 1, 1), 255 * y // max(height - 1, 1), 128, alpha))
 sys.stdout.buffer.write(rows)
