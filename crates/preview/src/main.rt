@@ -13,6 +13,9 @@ use pixels::PixelLayout;
 use pixels::Rect;
 use pixels::Refusal;
 use pixels::Sized;
+ghost use Prim.Native.Nat.{_≤_};
+ghost use lib.ListN.{length};
+ghost use Rattle.pixels.specs.Sizes.{rowBytes};
 
 mod decimal;
 
@@ -174,17 +177,11 @@ fn say_refusal(why: Refusal) {
 }
 
 // Runs a fresh job on the rows of standard input.
-fn run_job(job: Job, row: &mut [u8], out: &mut [u8], work: &mut [u32]) {
+fn run_job(job: Job, row: &mut [u8], out: &mut [u8], work: &mut [u32])
+    requires { ⌜ (rowBytes (job .plan .source .width) ≤ length (now row)) × (rowBytes (job .plan .target .width) ≤ length (now out)) ⌝ }
+{
     let w = 4 * job.plan.source.width as usize;
     let m = 4 * job.plan.target.width as usize;
-    if row.len() < w {
-        say_refusal(Refusal::InvalidDimensions);
-        return;
-    }
-    if out.len() < m {
-        say_refusal(Refusal::InvalidDimensions);
-        return;
-    }
     if !run_rows(job, &mut row[..w], &mut out[..m], work) {
         return;
     }

@@ -1,4 +1,4 @@
--- `run_job` lends the part of each buffer that a row takes; the tests before it say that it is within. Assumes nothing.
+-- `run_job` lends the part of each buffer that a row takes, which `requires` says is there. Assumes nothing.
 use lib.Seq.{length-take-le}
 use borrow.Author.Needs.{needs}
 use Rattle.preview.proofs.run_job.Statement.{statement}
@@ -15,18 +15,6 @@ cast-m c = search needs
 
 mul-m : tie.Need-mul-m
 mul-m c = search needs
-
-say-refusal-requires : tie.Need-say-refusal-requires
-say-refusal-requires c κs = search needs
-
-returns : tie.Need-returns
-returns c = search needs
-
-say-refusal-requires-2 : tie.Need-say-refusal-requires-2
-say-refusal-requires-2 c κs = search needs
-
-returns-2 : tie.Need-returns-2
-returns-2 c = search needs
 
 slice-relend-prefix-run-rows : tie.Need-slice-relend-prefix-run-rows
 slice-relend-prefix-run-rows c = search needs
@@ -52,8 +40,8 @@ same-length-2 c = search needs
 same-length-3 : tie.Need-same-length-3
 same-length-3 c = search needs
 
-returns-3 : tie.Need-returns-3
-returns-3 c = search needs
+returns : tie.Need-returns
+returns c = search needs
 
 input-ended-requires : tie.Need-input-ended-requires
 input-ended-requires c κs = search needs
@@ -73,8 +61,8 @@ same-length-5 c = search needs
 same-length-6 : tie.Need-same-length-6
 same-length-6 c = search needs
 
-returns-4 : tie.Need-returns-4
-returns-4 c = search needs
+returns-2 : tie.Need-returns-2
+returns-2 c = search needs
 
 same-length-7 : tie.Need-same-length-7
 same-length-7 c = search needs
@@ -85,8 +73,8 @@ same-length-8 c = search needs
 same-length-9 : tie.Need-same-length-9
 same-length-9 c = search needs
 
-returns-5 : tie.Need-returns-5
-returns-5 c = search needs
+returns-3 : tie.Need-returns-3
+returns-3 c = search needs
 
 pub run-job-spec : {M : Type 1} → statement M
 run-job-spec =
@@ -96,10 +84,6 @@ run-job-spec =
     mul-w
     cast-m
     mul-m
-    say-refusal-requires
-    returns
-    say-refusal-requires-2
-    returns-2
     slice-relend-prefix-run-rows
     slice-aggregate-run-rows
     slice-relend-prefix-run-rows-2
@@ -108,15 +92,15 @@ run-job-spec =
     same-length
     same-length-2
     same-length-3
-    returns-3
+    returns
     input-ended-requires
     slice-aggregate-say
     say-requires
     same-length-4
     same-length-5
     same-length-6
-    returns-4
+    returns-2
     same-length-7
     same-length-8
     same-length-9
-    returns-5)
+    returns-3)
