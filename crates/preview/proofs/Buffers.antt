@@ -1,0 +1,25 @@
+-- A row of a job that was started has at most 65,536 bytes, source and preview, since `start` refuses a side above 16,384. Assumes nothing.
+use Prim.Native.Nat.{ℕ, _≤_}
+use mathlib.Core.Path.{_≡_, sym, _∙_, ap}
+use native.Mathlib.Omega.{arith}
+use lib.ListN.{replicate, length-replicate}
+use Rattle.pixels.specs.Sizes.{rowBytes}
+use Rattle.job.specs.declared.Plan.{Plan}
+use Rattle.job.specs.declared.Job.{Job}
+use Rattle.job.specs.declared.Started.{Started}
+use Rattle.job.specs.declared.Started.the-variants as started
+use Rattle.job.specs.Answers.{startedNumber, startedJob}
+use Rattle.job.specs.Record.{fresh}
+use Rattle.job.specs.Calls.{startNumber}
+use Rattle.job.proofs.Views.{start-went}
+
+pub record RowsFit (j : Job) : Type 0 where
+  pub source : rowBytes (j .plan .source .width) ≤ 65536
+  pub target : rowBytes (j .plan .target .width) ≤ 65536
+
+pub rows-fit : (p : Plan) (n : ℕ) (r : Started) (j : Job) → startedNumber r ≡ startNumber p n → startedJob (fresh p) r ≡ fresh p → r ≡ started.Fresh j → RowsFit j
+rows-fit p n r j told is e =
+    let went = start-went p (replicate n 0) (ap (startNumber p) (length-replicate n 0) ∙ sym told ∙ ap startedNumber e) in
+    let same : fresh p ≡ j = sym is ∙ ap (startedJob (fresh p)) e in
+    let fits : RowsFit (fresh p) = record { source = omega (arith, went .sizes .source-width .most); target = omega (arith, went .sizes .target-width .most) } in
+    rw same at fits

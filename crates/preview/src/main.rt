@@ -1,0 +1,238 @@
+// preview WIDTH HEIGHT TARGET_WIDTH TARGET_HEIGHT [X Y CROP_WIDTH CROP_HEIGHT]
+// Reads raw RGBA rows from standard input and writes raw RGBA preview rows to standard output as they become ready, one row of each held at a time.
+// A target side of 0 is derived from the crop's size. What goes wrong is said in one line on standard error.
+use job::Job;
+use job::Offered;
+use job::Started;
+use job::Taken;
+use libc::STDERR_FILENO;
+use libc::STDIN_FILENO;
+use libc::STDOUT_FILENO;
+use pixels::Dimensions;
+use pixels::PixelLayout;
+use pixels::Rect;
+use pixels::Refusal;
+use pixels::Sized;
+ghost use Prim.Native.Nat.{_≤_};
+ghost use lib.ListN.{length};
+ghost use Rattle.pixels.specs.Sizes.{rowBytes};
+
+mod decimal;
+
+use decimal::NONE;
+use decimal::number;
+
+fn say(line: &[u8]) {
+    io::write_all(STDERR_FILENO, line);
+}
+
+// ---- the arguments
+
+// Argument i as a number; NONE where it is none.
+fn argument(i: usize) -> u64 {
+    let mut text = io::buffer();
+    let n = os::arg(i, &mut text);
+    if os::errno() != 0 {
+        return NONE;
+    }
+    number(&text[..n])
+}
+
+// Puts the arguments into `numbers`; at the first that is no number says so and answers false. `count` has the program's own name in it.
+fn arguments(numbers: &mut [u32; 8], count: usize) -> bool {
+    let mut i = 0usize;
+    while i < 8 {
+        if i + 1 == count {
+            return true;
+        }
+        let n = argument(i + 1);
+        if NONE <= n {
+            say(b"preview: argument ");
+            io::print_decimal(STDERR_FILENO, i as u64 + 1);
+            say(b" is not a decimal number below 4294967296\n");
+            return false;
+        }
+        numbers[i] = n as u32;
+        i += 1;
+    }
+    true
+}
+
+// ---- the input: all that knows its form
+
+// Reads the next row; false where the input does not have it whole.
+fn read_row(row: &mut [u8]) -> bool {
+    let n = io::read_full(STDIN_FILENO, row);
+    n == row.len()
+}
+
+// Whether the input has nothing more.
+fn input_ended() -> bool {
+    let mut more = [0u8; 1];
+    let n = io::read_full(STDIN_FILENO, &mut more);
+    n == 0
+}
+
+// ---- the rows
+
+// A job on its way, or stopped by what was said.
+struct Run {
+    job: Job,
+    going: bool,
+}
+
+// Takes the next row and writes it.
+fn take_row(job: Job, out: &mut [u8], work: &mut [u32]) -> Run {
+    let taken = job.take(out, work);
+    match taken {
+        Taken::Refused { why, job: same } => {
+            say_refusal(why);
+            Run {
+                job: same,
+                going: false,
+            }
+        }
+        Taken::Wrote { job: next } => {
+            let going = io::write_all(STDOUT_FILENO, out);
+            if !going {
+                os::fail(b"preview: standard output");
+            }
+            Run { job: next, going }
+        }
+    }
+}
+
+// Takes and writes every row that is ready.
+fn take_ready(first: Run, out: &mut [u8], work: &mut [u32]) -> Run {
+    let mut run = first;
+    let mut left = run.job.ready();
+    while left > 0 {
+        if !run.going {
+            return run;
+        }
+        run = take_row(run.job, out, work);
+        left -= 1;
+    }
+    run
+}
+
+// Reads a row and offers it.
+fn feed_row(job: Job, row: &mut [u8], work: &mut [u32]) -> Run {
+    if !read_row(row) {
+        say(b"preview: the input is too short: it has only ");
+        io::print_decimal(STDERR_FILENO, job.accepted as u64);
+        say(b" whole rows\n");
+        return Run { job, going: false };
+    }
+    let offered = job.offer(row, work);
+    match offered {
+        Offered::Refused { why, job: same } => {
+            say_refusal(why);
+            Run {
+                job: same,
+                going: false,
+            }
+        }
+        Offered::Accepted { rows: _, job: next } => Run {
+            job: next,
+            going: true,
+        },
+    }
+}
+
+// A row in, and the rows that it makes ready out.
+fn pass_row(job: Job, row: &mut [u8], out: &mut [u8], work: &mut [u32]) -> Run {
+    let fed = feed_row(job, row, work);
+    take_ready(fed, out, work)
+}
+
+// All of the source's rows, one after another; false where something stopped them.
+fn run_rows(fresh: Job, row: &mut [u8], out: &mut [u8], work: &mut [u32]) -> bool {
+    let mut run = Run {
+        job: fresh,
+        going: true,
+    };
+    let mut left = fresh.plan.source.height;
+    while left > 0 {
+        if !run.going {
+            return false;
+        }
+        run = pass_row(run.job, row, out, work);
+        left -= 1;
+    }
+    run.going
+}
+
+// ---- the picture
+
+// In words for a user of the command.
+fn say_refusal(why: Refusal) {
+    match why {
+        Refusal::InvalidDimensions => say(
+            b"preview: a side of the picture, of the crop or of the preview is 0 or above 16384\n",
+        ),
+        Refusal::CropOutOfBounds => say(b"preview: the crop does not lie within the picture\n"),
+        _ => say(b"preview: a row was refused\n"),
+    }
+}
+
+// Runs a fresh job on the rows of standard input.
+fn run_job(job: Job, row: &mut [u8], out: &mut [u8], work: &mut [u32])
+    requires { ⌜ (rowBytes (job .plan .source .width) ≤ length (now row)) × (rowBytes (job .plan .target .width) ≤ length (now out)) ⌝ }
+{
+    let w = 4 * job.plan.source.width as usize;
+    let m = 4 * job.plan.target.width as usize;
+    if !run_rows(job, &mut row[..w], &mut out[..m], work) {
+        return;
+    }
+    if !input_ended() {
+        say(b"preview: the input is too long: it goes on after the last row\n");
+    }
+}
+
+// One row of the widest picture in, one out, and the work values of the widest preview.
+fn scale(source: Dimensions, crop: Rect, target: Dimensions) {
+    let mut row = [0u8; 65536];
+    let mut out = [0u8; 65536];
+    let mut work = [0u32; 131072];
+    let started = job::start(source, PixelLayout::Rgba8, crop, target, &mut work);
+    match started {
+        Started::Refused { why } => say_refusal(why),
+        Started::Fresh { job } => run_job(job, &mut row, &mut out, &mut work),
+    }
+}
+
+// The sizes that the arguments ask for.
+fn preview(source: Dimensions, crop: Rect, width: u32, height: u32) {
+    let sized = Dimensions {
+        width: crop.width,
+        height: crop.height,
+    }.scaled(width, height);
+    match sized {
+        Sized::Refused(why) => say_refusal(why),
+        Sized::Size(target) => scale(source, crop, target),
+    }
+}
+
+fn main() {
+    let mut n = [0u32; 8];
+    let count = os::arg_count();
+    if count != 5 && count != 9 {
+        say(
+            b"usage: preview WIDTH HEIGHT TARGET_WIDTH TARGET_HEIGHT [X Y CROP_WIDTH CROP_HEIGHT]\n",
+        );
+        return;
+    }
+    if !arguments(&mut n, count) {
+        return;
+    }
+    let source = Dimensions {
+        width: n[0],
+        height: n[1],
+    };
+    if count == 5 {
+        preview(source, Rect::new(0, 0, n[0], n[1]), n[2], n[3]);
+        return;
+    }
+    preview(source, Rect::new(n[4], n[5], n[6], n[7]), n[2], n[3]);
+}
