@@ -1,0 +1,64 @@
+/* The port's C boundary (include/jonquilsaw.h) behind what ours.c calls. Answers have room for exactly the words that the
+ * boundary writes; pack and unpack are not in it. */
+#include "ours.h"
+
+#include "jonquilsaw.h"
+
+_Static_assert(OURS_RECORD == JONQUILSAW_RECORD_WORDS, "a record's words");
+
+/* The record that start writes lies apart from its arguments; what it writes beside a success is seen as a difference. */
+uint32_t ours_start(uint32_t record[OURS_RECORD], uint32_t* work, size_t work_len) {
+  uint32_t fresh[OURS_RECORD];
+  for (int i = 0; i < OURS_RECORD; ++i) fresh[i] = 0x5c5c5c5cu + (uint32_t)i;
+  const uint32_t n = jonquilsaw_start(record[0], record[1], record[2], record[3], record[4], record[5], record[6], record[7], record[8], work, work_len,
+                                      fresh, OURS_RECORD);
+  for (int i = 0; i < OURS_RECORD; ++i) {
+    if (n == 0) record[i] = fresh[i];
+    else if (fresh[i] != 0x5c5c5c5cu + (uint32_t)i) return 1000;
+  }
+  return n;
+}
+
+uint32_t ours_offer(uint32_t record[OURS_RECORD], const uint8_t* bytes, size_t len, uint32_t* work, size_t work_len, uint32_t* rows) {
+  return jonquilsaw_offer(record, OURS_RECORD, bytes, len, work, work_len, rows, 1);
+}
+
+uint32_t ours_take(uint32_t record[OURS_RECORD], uint8_t* out, size_t out_len, uint32_t* work, size_t work_len) {
+  return jonquilsaw_take(record, OURS_RECORD, out, out_len, work, work_len);
+}
+
+uint32_t ours_resize(uint32_t layout, uint32_t w, uint32_t h, uint32_t tw, uint32_t th, const uint8_t* pixels, size_t len, uint8_t* out, size_t out_len,
+                     uint32_t* work, size_t work_len, uint32_t* flag) {
+  return jonquilsaw_resize(w, h, layout, tw, th, pixels, len, out, out_len, work, work_len, flag, 1);
+}
+
+uint32_t ours_crop(uint32_t layout, uint32_t w, uint32_t h, uint32_t x, uint32_t y, uint32_t cw, uint32_t ch, const uint8_t* pixels, size_t len,
+                   uint8_t* out, size_t out_len, uint32_t* flag) {
+  return jonquilsaw_crop(w, h, layout, x, y, cw, ch, pixels, len, out, out_len, flag, 1);
+}
+
+uint32_t ours_apply_alpha_plane(uint32_t layout, uint32_t w, uint32_t h, uint8_t* pixels, size_t len, const uint8_t* plane, size_t plane_len,
+                                uint32_t* flag) {
+  return jonquilsaw_apply_alpha_plane(w, h, layout, pixels, len, plane, plane_len, flag, 1);
+}
+
+uint32_t ours_has_alpha(uint32_t layout, uint32_t w, uint32_t h, const uint8_t* pixels, size_t len, uint32_t* flag) {
+  return jonquilsaw_has_alpha(w, h, layout, pixels, len, flag, 1);
+}
+
+uint32_t ours_scaled(uint32_t w, uint32_t h, uint32_t tw, uint32_t th, uint32_t* width, uint32_t* height) {
+  uint32_t size[2] = {0, 0};
+  const uint32_t n = jonquilsaw_scaled(w, h, tw, th, size, 2);
+  *width = size[0], *height = size[1];
+  return n;
+}
+
+uint32_t ours_unpack(uint32_t layout, const uint8_t* bytes, size_t len, uint32_t* out, size_t out_len) {
+  (void)layout, (void)bytes, (void)len, (void)out, (void)out_len;
+  return OURS_ABSENT;
+}
+
+uint32_t ours_pack(uint32_t layout, const uint32_t* argb, size_t count, uint8_t* out, size_t out_len) {
+  (void)layout, (void)argb, (void)count, (void)out, (void)out_len;
+  return OURS_ABSENT;
+}

@@ -1,0 +1,391 @@
+/* Times the port, the original and libwebp on the same pictures, side by side (./bench builds and runs it).
+ *
+ *   drive [ROUNDS]             the tables
+ *   drive memory SIDE JOB      one job in a process of its own: its peak memory in KiB (VmHWM)
+ *
+ * A round runs every side once, in turning order, and each round has another layout, so that no side knows it beforehand.
+ * Timed is processor time of the one thread, which other programs on the machine disturb least. The median counts.
+ * NO_ORIGINAL, NO_LIBWEBP and NO_PLAIN leave out what is not at hand. */
+#define _GNU_SOURCE
+#include <stddef.h>
+#include <stdint.h>
+#include <stdio.h>
+#include <stdlib.h>
+#include <string.h>
+#include <time.h>
+
+#include "jonquilsaw.h"
+
+#ifndef NO_LIBWEBP
+#include <webp/encode.h>
+#endif
+#ifndef NO_PLAIN
+/* libwebp's choice of processor features; NULL leaves its plain C. It is no part of the public headers. */
+typedef int (*CpuInfo)(int feature);
+extern CpuInfo VP8GetCPUInfo;
+#endif
+#ifndef NO_ORIGINAL
+void* original_new(uint32_t layout, uint32_t width, uint32_t height, const uint8_t* pixels);
+void* original_scale(const void* image, _Bool cut, uint32_t x, uint32_t y, uint32_t cw, uint32_t ch, uint32_t tw, uint32_t th);
+void original_free(void* image, uint8_t* out);
+#endif
+
+typedef struct {
+  uint32_t w, h, x, y, cw, ch, tw, th;
+} Job;
+
+static const Job kJobs[] = {
+    {4000, 3000, 0, 0, 4000, 3000, 160, 120},      {1920, 1080, 0, 0, 1920, 1080, 320, 180}, {512, 512, 0, 0, 512, 512, 1024, 1024},
+    {3000, 4000, 500, 1000, 2000, 2000, 200, 200}, {16384, 16, 0, 0, 16384, 16, 128, 1},
+};
+enum { JOBS = sizeof kJobs / sizeof kJobs[0], MOST_ROUNDS = 1000 };
+
+typedef enum { ROWS, WHOLE, ORIGINAL, SIMD, PLAIN, SIDES } Side;
+static const char* const kSides[SIDES] = {"ours, by rows", "ours, whole", "original Rust", "libwebp SIMD", "libwebp plain C"};
+
+static int at_hand(Side s) {
+#ifdef NO_ORIGINAL
+  if (s == ORIGINAL) return 0;
+#endif
+#ifdef NO_LIBWEBP
+  if (s == SIMD) return 0;
+#endif
+#ifdef NO_PLAIN
+  if (s == PLAIN) return 0;
+#endif
+  return s < SIDES;
+}
+
+static void refuse(const char* what) {
+  fprintf(stderr, "bench: %s\n", what);
+  exit(1);
+}
+
+static void* room(size_t n) {
+  void* const p = malloc(n);
+  if (!p) refuse("no memory");
+  return p;
+}
+
+static int cropped(const Job* j) { return j->cw != j->w || j->ch != j->h; }
+static size_t source_pixels(const Job* j) { return (size_t)j->w * j->h; }
+static size_t target_bytes(const Job* j) { return (size_t)4 * j->tw * j->th; }
+
+/* The next pixel 0xAARRGGBB of a picture: noise, its alpha 255 in an opaque one. */
+static uint32_t next_pixel(uint32_t* state, int translucent) {
+  uint32_t v = 0;
+  for (int i = 0; i < 4; ++i) {
+    *state = *state * 1664525u + 1013904223u;
+    v = v << 8 | *state >> 24;
+  }
+  return translucent ? v : v | 0xff000000u;
+}
+
+/* The lane (0 blue to 3 alpha) at each byte of a packed pixel. */
+static const int kLane[3][4] = {{2, 1, 0, 3}, {3, 2, 1, 0}, {0, 1, 2, 3}};
+
+static void pack(uint32_t layout, uint32_t v, uint8_t* p) {
+  for (int i = 0; i < 4; ++i) p[i] = (uint8_t)(v >> (8 * kLane[layout][i]));
+}
+
+/* What a side reads, and room for what it writes. */
+typedef struct {
+  const Job* job;
+  uint32_t layout;
+  const uint32_t* argb; /* the picture as libwebp has it */
+  uint8_t* pixels;      /* and packed */
+  uint8_t *cut, *out;
+  uint32_t* work;
+} Lent;
+
+static double now(void) {
+  struct timespec t;
+  clock_gettime(CLOCK_THREAD_CPUTIME_ID, &t);
+  return 1e9 * (double)t.tv_sec + (double)t.tv_nsec;
+}
+
+/* A row at a time; row(to, y) says where source row y lies, and each preview row goes to out. */
+static void by_rows(const Job* j, uint32_t layout, uint32_t* work, const uint8_t* (*row)(void*, uint32_t), void* to, uint8_t* out, size_t out_step) {
+  uint32_t record[JONQUILSAW_RECORD_WORDS], count = 0, taken = 0;
+  const size_t words = JONQUILSAW_WORK_WORDS(j->tw);
+  if (jonquilsaw_start(j->w, j->h, layout, j->x, j->y, j->cw, j->ch, j->tw, j->th, work, words, record, JONQUILSAW_RECORD_WORDS)) refuse("start");
+  for (uint32_t y = 0; y < j->h && taken < j->th; ++y) {
+    if (jonquilsaw_offer(record, JONQUILSAW_RECORD_WORDS, row(to, y), (size_t)4 * j->w, work, words, &count, 1)) refuse("offer");
+    while (jonquilsaw_take(record, JONQUILSAW_RECORD_WORDS, out + taken * out_step, (size_t)4 * j->tw, work, words) == JONQUILSAW_OK) {
+      if (++taken == j->th) break;
+    }
+  }
+  if (taken != j->th) refuse("rows are missing");
+}
+
+static const uint8_t* stored_row(void* lent, uint32_t y) {
+  const Lent* const l = lent;
+  return l->pixels + (size_t)4 * l->job->w * y;
+}
+
+static double time_rows(Lent* l) {
+  const double t = now();
+  by_rows(l->job, l->layout, l->work, stored_row, l, l->out, (size_t)4 * l->job->tw);
+  return now() - t;
+}
+
+static double time_whole(Lent* l) {
+  const Job* const j = l->job;
+  const uint8_t* from = l->pixels;
+  const size_t cut = (size_t)4 * j->cw * j->ch;
+  uint32_t flag = 0;
+  const double t = now();
+  if (cropped(j)) {
+    if (jonquilsaw_crop(j->w, j->h, l->layout, j->x, j->y, j->cw, j->ch, from, 4 * source_pixels(j), l->cut, cut, &flag, 1)) refuse("crop");
+    from = l->cut;
+  }
+  if (jonquilsaw_resize(j->cw, j->ch, l->layout, j->tw, j->th, from, cut, l->out, target_bytes(j), l->work, JONQUILSAW_WORK_WORDS(j->tw), &flag, 1)) {
+    refuse("resize");
+  }
+  return now() - t;
+}
+
+#ifndef NO_ORIGINAL
+static double time_original(Lent* l) {
+  const Job* const j = l->job;
+  void* const image = original_new(l->layout, j->w, j->h, l->pixels);
+  const double t = now();
+  void* const made = original_scale(image, cropped(j), j->x, j->y, j->cw, j->ch, j->tw, j->th);
+  const double spent = now() - t;
+  original_free(made, l->out);
+  original_free(image, NULL);
+  return spent;
+}
+#endif
+
+#ifndef NO_LIBWEBP
+static void new_picture(WebPPicture* pic, const Job* j) {
+  if (!WebPPictureInit(pic)) refuse("WebPPictureInit");
+  pic->use_argb = 1;
+  pic->width = (int)j->w;
+  pic->height = (int)j->h;
+  if (!WebPPictureAlloc(pic)) refuse("WebPPictureAlloc");
+}
+
+static void scale_picture(WebPPicture* pic, const Job* j) {
+  if (cropped(j) && !WebPPictureCrop(pic, (int)j->x, (int)j->y, (int)j->cw, (int)j->ch)) refuse("WebPPictureCrop");
+  if (!WebPPictureRescale(pic, (int)j->tw, (int)j->th)) refuse("WebPPictureRescale");
+}
+
+static double time_libwebp(Lent* l) {
+  const Job* const j = l->job;
+  WebPPicture pic;
+  new_picture(&pic, j);
+  for (uint32_t y = 0; y < j->h; ++y) memcpy(pic.argb + (size_t)y * pic.argb_stride, l->argb + (size_t)y * j->w, (size_t)4 * j->w);
+  const double t = now();
+  scale_picture(&pic, j);
+  const double spent = now() - t;
+  for (size_t i = 0; i < (size_t)j->tw * j->th; ++i) pack(l->layout, pic.argb[i / j->tw * pic.argb_stride + i % j->tw], l->out + 4 * i);
+  WebPPictureFree(&pic);
+  return spent;
+}
+#endif
+
+#ifndef NO_PLAIN
+static double time_plain(Lent* l) {
+  const CpuInfo features = VP8GetCPUInfo;
+  VP8GetCPUInfo = NULL;
+  const double spent = time_libwebp(l);
+  VP8GetCPUInfo = features;
+  return spent;
+}
+#endif
+
+static double time_side(Side s, Lent* l) {
+  switch (s) {
+    case ROWS: return time_rows(l);
+    case WHOLE: return time_whole(l);
+#ifndef NO_ORIGINAL
+    case ORIGINAL: return time_original(l);
+#endif
+#ifndef NO_LIBWEBP
+    case SIMD: return time_libwebp(l);
+#endif
+#ifndef NO_PLAIN
+    case PLAIN: return time_plain(l);
+#endif
+    default: refuse("no such side");
+  }
+  return 0;
+}
+
+static int ascending(const void* a, const void* b) { return (*(const double*)a > *(const double*)b) - (*(const double*)a < *(const double*)b); }
+
+/* Medians of all sides in ns for each source pixel; every side must make the same bytes. */
+static void measure(const Job* j, int translucent, int rounds, double median[SIDES]) {
+  static double spent[SIDES][MOST_ROUNDS];
+  const size_t n = source_pixels(j), out = target_bytes(j);
+  uint32_t* const argb = room(4 * n);
+  uint8_t* const first = room(out);
+  Lent l = {j, 0, argb, room(4 * n), room((size_t)4 * j->cw * j->ch), room(out), room(4 * JONQUILSAW_WORK_WORDS(j->tw))};
+  uint32_t state = 1;
+  for (size_t i = 0; i < n; ++i) argb[i] = next_pixel(&state, translucent);
+  for (int r = -1; r < rounds; ++r) { /* round -1 warms up */
+    int made = 0;
+    l.layout = (uint32_t)(r + 1) % 3;
+    for (size_t i = 0; i < n; ++i) pack(l.layout, argb[i], l.pixels + 4 * i);
+    for (int k = 0; k < SIDES; ++k) {
+      const Side s = (Side)((k + r + 1) % SIDES);
+      if (!at_hand(s)) continue;
+      memset(l.out, 0x5c, out);
+      const double t = time_side(s, &l);
+      if (r >= 0) spent[s][r] = t / (double)n;
+      if (made++ == 0) memcpy(first, l.out, out);
+      else if (memcmp(first, l.out, out)) refuse("the sides do not make the same bytes");
+    }
+  }
+  for (int s = 0; s < SIDES; ++s) {
+    qsort(spent[s], (size_t)rounds, sizeof(double), ascending);
+    median[s] = spent[s][rounds / 2];
+  }
+  free(argb), free(first), free(l.pixels), free(l.cut), free(l.out), free(l.work);
+}
+
+/* Peak memory: a translucent picture made by the process itself, nothing kept that the side does not need. */
+
+typedef struct {
+  const Job* job;
+  uint32_t state;
+  uint8_t* row;
+} Maker;
+
+static void make_pixels(uint32_t* state, uint32_t layout, uint8_t* to, size_t n) {
+  for (size_t i = 0; i < n; ++i) pack(layout, next_pixel(state, 1), to + 4 * i);
+}
+
+static const uint8_t* made_row(void* maker, uint32_t y) {
+  Maker* const m = maker;
+  (void)y;
+  make_pixels(&m->state, 0, m->row, m->job->w);
+  return m->row;
+}
+
+static void once(Side s, const Job* j) {
+  uint32_t state = 1;
+  if (s == ROWS) {
+    Maker m = {j, 1, room((size_t)4 * j->w)};
+    by_rows(j, 0, room(4 * JONQUILSAW_WORK_WORDS(j->tw)), made_row, &m, room((size_t)4 * j->tw), 0);
+  } else if (s == WHOLE) {
+    Lent l = {j, 0, NULL, room(4 * source_pixels(j)), room((size_t)4 * j->cw * j->ch), room(target_bytes(j)), room(4 * JONQUILSAW_WORK_WORDS(j->tw))};
+    make_pixels(&state, 0, l.pixels, source_pixels(j));
+    time_whole(&l);
+#ifndef NO_ORIGINAL
+  } else if (s == ORIGINAL) {
+    uint8_t* const pixels = room(4 * source_pixels(j));
+    make_pixels(&state, 0, pixels, source_pixels(j));
+    void* const image = original_new(0, j->w, j->h, pixels);
+    original_scale(image, cropped(j), j->x, j->y, j->cw, j->ch, j->tw, j->th);
+#endif
+#ifndef NO_LIBWEBP
+  } else if (s == SIMD) {
+    WebPPicture pic;
+    new_picture(&pic, j);
+    for (size_t i = 0; i < source_pixels(j); ++i) pic.argb[i / j->w * pic.argb_stride + i % j->w] = next_pixel(&state, 1);
+    scale_picture(&pic, j);
+#endif
+  }
+}
+
+static long peak(void) {
+  char line[256];
+  long kib = -1;
+  FILE* const f = fopen("/proc/self/status", "r");
+  while (f && fgets(line, sizeof line, f)) sscanf(line, "VmHWM: %ld", &kib);
+  if (f) fclose(f);
+  return kib;
+}
+
+/* What a process of its own says; SIDES is the process that does nothing. */
+static long peak_of(const char* program, int side, int job) {
+  char command[4096];
+  long kib = -1;
+  snprintf(command, sizeof command, "'%s' memory %d %d", program, side, job);
+  FILE* const f = popen(command, "r");
+  if (!f || fscanf(f, "%ld", &kib) != 1 || pclose(f) != 0) refuse("a memory run failed");
+  return kib;
+}
+
+static void heading(const char* first) {
+  printf("| %s |", first);
+  for (int s = 0; s < SIDES; ++s) {
+    if (at_hand((Side)s)) printf(" %s |", kSides[s]);
+  }
+}
+
+static void ratio(double ours, double other, int there) {
+  if (there) printf(" %.2f |", ours / other);
+  else fputs(" - |", stdout);
+}
+
+static void name(const Job* j) {
+  printf("| %ux%u", j->w, j->h);
+  if (cropped(j)) printf(" cropped %ux%u", j->cw, j->ch);
+  printf(" to %ux%u", j->tw, j->th);
+}
+
+static void times(int wanted) {
+  puts("ns of processor time for each source pixel, medians:\n");
+  heading("job");
+  puts(" rows / Rust | rows / SIMD | whole / SIMD |");
+  for (int i = 0; i < SIDES + 4; ++i) {
+    if (i >= SIDES || at_hand((Side)i)) fputs("|---", stdout);
+  }
+  puts("|");
+  for (int i = 0; i < 2 * JOBS; ++i) {
+    const Job* const j = &kJobs[i / 2];
+    const int rounds = wanted ? wanted : source_pixels(j) > 4000000 ? 15 : 45;
+    double median[SIDES] = {0};
+    measure(j, i % 2, rounds, median);
+    name(j);
+    printf(", %s |", i % 2 ? "translucent" : "opaque");
+    for (int s = 0; s < SIDES; ++s) {
+      if (at_hand((Side)s)) printf(" %.2f |", median[s]);
+    }
+    ratio(median[ROWS], median[ORIGINAL], at_hand(ORIGINAL));
+    ratio(median[ROWS], median[SIMD], at_hand(SIMD));
+    ratio(median[WHOLE], median[SIMD], at_hand(SIMD));
+    putchar('\n');
+    fflush(stdout);
+  }
+}
+
+static void memory(const char* program) {
+  printf("\nPeak memory (VmHWM) of a process of its own for each, KiB; one that does nothing has %ld:\n\n", peak_of(program, SIDES, 0));
+  fputs("| job |", stdout);
+  for (int s = 0; s < PLAIN; ++s) {
+    if (at_hand((Side)s)) printf(" %s |", s == SIMD ? "libwebp" : kSides[s]);
+  }
+  fputs("\n|---", stdout);
+  for (int s = 0; s < PLAIN; ++s) {
+    if (at_hand((Side)s)) fputs("|---", stdout);
+  }
+  puts("|");
+  for (int i = 0; i < JOBS; ++i) {
+    name(&kJobs[i]);
+    fputs(" |", stdout);
+    for (int s = 0; s < PLAIN; ++s) {
+      if (at_hand((Side)s)) printf(" %ld |", peak_of(program, s, i));
+    }
+    putchar('\n');
+  }
+}
+
+int main(int argc, char** argv) {
+  if (argc == 4 && !strcmp(argv[1], "memory")) {
+    const int job = atoi(argv[3]);
+    if (job < 0 || job >= JOBS) refuse("no such job");
+    once((Side)atoi(argv[2]), &kJobs[job]);
+    printf("%ld\n", peak());
+    return 0;
+  }
+  const int wanted = argc > 1 ? atoi(argv[1]) : 0;
+  if (wanted < 0 || wanted > MOST_ROUNDS) refuse("rounds: 1 to 1000");
+  times(wanted);
+  memory(argv[0]);
+  return 0;
+}
