@@ -5,14 +5,14 @@ use job::Offered;
 use job::Started;
 use job::Taken;
 use libc::STDOUT_FILENO;
+use pictures::apply_alpha_plane;
+use pictures::crop;
 use pixels::Dimensions;
 use pixels::Flagged;
 use pixels::PixelLayout;
 use pixels::Rect;
 use pixels::Refusal;
 use pixels::Sized;
-use pictures::apply_alpha_plane;
-use pictures::crop;
 
 mod picture;
 mod text;
