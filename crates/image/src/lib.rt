@@ -1,0 +1,56 @@
+// A borrowed picture (document 01, "Lanes": "A borrowed picture, as `ImageRef`, holds size, layout and pixels"; the Rust: ImageRef of image.rs).
+// Each function over it takes it apart and calls a function of plain parameters, which does the work.
+use pixels::Dimensions;
+use pixels::Flagged;
+use pixels::PixelLayout;
+use pixels::picture_has_alpha;
+ghost use mathlib.Core.Path.{_≡_};
+ghost use Prim.Native.Nat.{_*_};
+ghost use lib.ListN.{length};
+ghost use Rattle.pixels.specs.Refusals.{flaggedNumber, flaggedFlag, flagIf, bufferIf};
+ghost use Rattle.pixels.specs.Picture.{hasAlpha, pictureNumber};
+
+pub struct ImageRef<'a> {
+    pub dims: Dimensions,
+    pub layout: PixelLayout,
+    pub pixels: &'a [u8],
+}
+
+// The work of has_alpha, on the fields in their order.
+fn flag_of(dims: Dimensions, layout: PixelLayout, pixels: &[u8]) -> Flagged
+    ensures number { λ r. ⌜ flaggedNumber r ≡ pictureNumber dims (length (now (pixels .entry))) ⌝ }
+    ensures flag { λ r. ⌜ flaggedFlag r ≡ flagIf (pictureNumber dims (length (now (pixels .entry)))) (hasAlpha layout (now (pixels .entry)) (dims .width * dims .height)) ⌝ }
+{
+    picture_has_alpha(dims, layout, pixels)
+}
+
+impl<'a> ImageRef<'a> {
+    // The Rust's dimensions.
+    pub fn dimensions(self) -> Dimensions
+        ensures { λ r. ⌜ r ≡ self .entry .dims ⌝ }
+    {
+        self.dims
+    }
+
+    // The Rust's layout.
+    pub fn layout(self) -> PixelLayout
+        ensures { λ r. ⌜ r ≡ self .entry .layout ⌝ }
+    {
+        self.layout
+    }
+
+    // The Rust's as_bytes.
+    pub fn as_bytes(self) -> &'a [u8]
+        ensures { λ r. ⌜ r ≡ self .entry .pixels ⌝ }
+    {
+        self.pixels
+    }
+
+    // The Rust's has_alpha.
+    pub fn has_alpha(self) -> Flagged
+        ensures number { λ r. ⌜ flaggedNumber r ≡ pictureNumber (self .entry .dims) (length (now (self .entry .pixels))) ⌝ }
+        ensures flag { λ r. ⌜ flaggedFlag r ≡ flagIf (pictureNumber (self .entry .dims) (length (now (self .entry .pixels)))) (hasAlpha (self .entry .layout) (now (self .entry .pixels)) (self .entry .dims .width * self .entry .dims .height)) ⌝ }
+    {
+        flag_of(self.dims, self.layout, self.pixels)
+    }
+}
