@@ -18,3 +18,6 @@ more 𝓤 φ R x h = via 𝓤 (fact 𝓤 φ) (factI 𝓤 φ (emp 𝓤) x) (besid
 
 pub says-two : {M : Type 1} {𝓤 : URA M} {H : Heap 𝓤} {A : Atoms 𝓤} {K : Type 0} {W : Given 𝓤 H A} {Γ : List (Item 𝓤)} → K → {φ ψ : Type 0} {P : SProp 𝓤} → φ → ψ → Step K W Γ (prop P) Γ (prop (sep 𝓤 P (sep 𝓤 (fact 𝓤 φ) (fact 𝓤 ψ))))
 says-two {𝓤 = 𝓤} t {φ} {ψ} {P} x y = step (λ s. record { prf = via 𝓤 P (s .prf) (beside 𝓤 P (sep 𝓤 (fact 𝓤 φ) (fact 𝓤 ψ)) (more 𝓤 φ (fact 𝓤 ψ) x (factI 𝓤 ψ (emp 𝓤) y))) })
+
+pub says-three : {M : Type 1} {𝓤 : URA M} {H : Heap 𝓤} {A : Atoms 𝓤} {K : Type 0} {W : Given 𝓤 H A} {Γ : List (Item 𝓤)} → K → {φ ψ χ : Type 0} {P : SProp 𝓤} → φ → ψ → χ → Step K W Γ (prop P) Γ (prop (sep 𝓤 P (sep 𝓤 (fact 𝓤 φ) (sep 𝓤 (fact 𝓤 ψ) (fact 𝓤 χ)))))
+says-three {𝓤 = 𝓤} t {φ} {ψ} {χ} {P} x y z = step (λ s. record { prf = via 𝓤 P (s .prf) (beside 𝓤 P (sep 𝓤 (fact 𝓤 φ) (sep 𝓤 (fact 𝓤 ψ) (fact 𝓤 χ))) (more 𝓤 φ (sep 𝓤 (fact 𝓤 ψ) (fact 𝓤 χ)) x (more 𝓤 ψ (fact 𝓤 χ) y (factI 𝓤 χ (emp 𝓤) z)))) })

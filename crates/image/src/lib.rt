@@ -3,12 +3,14 @@
 use pixels::Dimensions;
 use pixels::Flagged;
 use pixels::PixelLayout;
+use pixels::Rect;
+use pixels::crop;
 use pixels::picture_has_alpha;
 ghost use mathlib.Core.Path.{_≡_};
 ghost use Prim.Native.Nat.{_*_};
 ghost use lib.ListN.{length};
 ghost use Rattle.pixels.specs.Refusals.{flaggedNumber, flaggedFlag, flagIf, bufferIf};
-ghost use Rattle.pixels.specs.Picture.{hasAlpha, pictureNumber};
+ghost use Rattle.pixels.specs.Picture.{hasAlpha, pictureNumber, cropped, cropNumber};
 
 pub struct ImageRef<'a> {
     pub dims: Dimensions,
@@ -22,6 +24,21 @@ fn flag_of(dims: Dimensions, layout: PixelLayout, pixels: &[u8]) -> Flagged
     ensures flag { λ r. ⌜ flaggedFlag r ≡ flagIf (pictureNumber dims (length (now (pixels .entry)))) (hasAlpha layout (now (pixels .entry)) (dims .width * dims .height)) ⌝ }
 {
     picture_has_alpha(dims, layout, pixels)
+}
+
+// The work of crop.
+fn crop_of(
+    dims: Dimensions,
+    layout: PixelLayout,
+    pixels: &[u8],
+    rect: Rect,
+    out: &mut [u8],
+) -> Flagged
+    ensures number { λ r. ⌜ flaggedNumber r ≡ cropNumber dims rect (length (now (pixels .entry))) (length (now (out .entry))) ⌝ }
+    ensures flag { λ r. ⌜ flaggedFlag r ≡ flagIf (cropNumber dims rect (length (now (pixels .entry))) (length (now (out .entry)))) (hasAlpha layout (cropped dims rect (now (pixels .entry))) (rect .width * rect .height)) ⌝ }
+    ensures out { λ _. ⌜ now (out .exit) ≡ bufferIf (cropNumber dims rect (length (now (pixels .entry))) (length (now (out .entry)))) (cropped dims rect (now (pixels .entry))) (now (out .entry)) ⌝ }
+{
+    crop(dims, layout, pixels, rect, out)
 }
 
 impl<'a> ImageRef<'a> {
@@ -52,5 +69,14 @@ impl<'a> ImageRef<'a> {
         ensures flag { λ r. ⌜ flaggedFlag r ≡ flagIf (pictureNumber (self .entry .dims) (length (now (self .entry .pixels)))) (hasAlpha (self .entry .layout) (now (self .entry .pixels)) (self .entry .dims .width * self .entry .dims .height)) ⌝ }
     {
         flag_of(self.dims, self.layout, self.pixels)
+    }
+
+    // The Rust's crop.
+    pub fn crop(self, rect: Rect, out: &mut [u8]) -> Flagged
+        ensures number { λ r. ⌜ flaggedNumber r ≡ cropNumber (self .entry .dims) rect (length (now (self .entry .pixels))) (length (now (out .entry))) ⌝ }
+        ensures flag { λ r. ⌜ flaggedFlag r ≡ flagIf (cropNumber (self .entry .dims) rect (length (now (self .entry .pixels))) (length (now (out .entry)))) (hasAlpha (self .entry .layout) (cropped (self .entry .dims) rect (now (self .entry .pixels))) (rect .width * rect .height)) ⌝ }
+        ensures out { λ _. ⌜ now (out .exit) ≡ bufferIf (cropNumber (self .entry .dims) rect (length (now (self .entry .pixels))) (length (now (out .entry)))) (cropped (self .entry .dims) rect (now (self .entry .pixels))) (now (out .entry)) ⌝ }
+    {
+        crop_of(self.dims, self.layout, self.pixels, rect, out)
     }
 }
