@@ -21,3 +21,6 @@ says-two {𝓤 = 𝓤} t {φ} {ψ} {P} x y = step (λ s. record { prf = via 𝓤
 
 pub says-three : {M : Type 1} {𝓤 : URA M} {H : Heap 𝓤} {A : Atoms 𝓤} {K : Type 0} {W : Given 𝓤 H A} {Γ : List (Item 𝓤)} → K → {φ ψ χ : Type 0} {P : SProp 𝓤} → φ → ψ → χ → Step K W Γ (prop P) Γ (prop (sep 𝓤 P (sep 𝓤 (fact 𝓤 φ) (sep 𝓤 (fact 𝓤 ψ) (fact 𝓤 χ)))))
 says-three {𝓤 = 𝓤} t {φ} {ψ} {χ} {P} x y z = step (λ s. record { prf = via 𝓤 P (s .prf) (beside 𝓤 P (sep 𝓤 (fact 𝓤 φ) (sep 𝓤 (fact 𝓤 ψ) (fact 𝓤 χ))) (more 𝓤 φ (sep 𝓤 (fact 𝓤 ψ) (fact 𝓤 χ)) x (more 𝓤 ψ (fact 𝓤 χ) y (factI 𝓤 χ (emp 𝓤) z)))) })
+
+pub says-four : {M : Type 1} {𝓤 : URA M} {H : Heap 𝓤} {A : Atoms 𝓤} {K : Type 0} {W : Given 𝓤 H A} {Γ : List (Item 𝓤)} → K → {φ ψ χ ω : Type 0} {P : SProp 𝓤} → φ → ψ → χ → ω → Step K W Γ (prop P) Γ (prop (sep 𝓤 P (sep 𝓤 (fact 𝓤 φ) (sep 𝓤 (fact 𝓤 ψ) (sep 𝓤 (fact 𝓤 χ) (fact 𝓤 ω))))))
+says-four {𝓤 = 𝓤} t {φ} {ψ} {χ} {ω} {P} x y z u = step (λ s. record { prf = via 𝓤 P (s .prf) (beside 𝓤 P (sep 𝓤 (fact 𝓤 φ) (sep 𝓤 (fact 𝓤 ψ) (sep 𝓤 (fact 𝓤 χ) (fact 𝓤 ω)))) (more 𝓤 φ (sep 𝓤 (fact 𝓤 ψ) (sep 𝓤 (fact 𝓤 χ) (fact 𝓤 ω))) x (more 𝓤 ψ (sep 𝓤 (fact 𝓤 χ) (fact 𝓤 ω)) y (more 𝓤 χ (fact 𝓤 ω) z (factI 𝓤 ω (emp 𝓤) u))))) })

@@ -1,5 +1,6 @@
 // A borrowed picture (document 01, "Lanes": "A borrowed picture, as `ImageRef`, holds size, layout and pixels"; the Rust: ImageRef of image.rs).
 // Each function over it takes it apart and calls a function of plain parameters, which does the work.
+use picture::resize;
 use pixels::Dimensions;
 use pixels::Flagged;
 use pixels::PixelLayout;
@@ -11,6 +12,8 @@ ghost use Prim.Native.Nat.{_*_};
 ghost use lib.ListN.{length};
 ghost use Rattle.pixels.specs.Refusals.{flaggedNumber, flaggedFlag, flagIf, bufferIf};
 ghost use Rattle.pixels.specs.Picture.{hasAlpha, pictureNumber, cropped, cropNumber};
+ghost use Rattle.claim.specs.Rows.{resized, resizedFlag};
+ghost use Rattle.picture.specs.Resize.{resizeNumber, resizedWork};
 
 pub struct ImageRef<'a> {
     pub dims: Dimensions,
@@ -39,6 +42,23 @@ fn crop_of(
     ensures out { λ _. ⌜ now (out .exit) ≡ bufferIf (cropNumber dims rect (length (now (pixels .entry))) (length (now (out .entry)))) (cropped dims rect (now (pixels .entry))) (now (out .entry)) ⌝ }
 {
     crop(dims, layout, pixels, rect, out)
+}
+
+// The work of resize.
+fn resize_of(
+    dims: Dimensions,
+    layout: PixelLayout,
+    pixels: &[u8],
+    target: Dimensions,
+    out: &mut [u8],
+    work: &mut [u32],
+) -> Flagged
+    ensures number { λ r. ⌜ flaggedNumber r ≡ resizeNumber dims target (length (now (pixels .entry))) (length (now (out .entry))) (length (now (work .entry))) ⌝ }
+    ensures flag { λ r. ⌜ flaggedFlag r ≡ flagIf (resizeNumber dims target (length (now (pixels .entry))) (length (now (out .entry))) (length (now (work .entry)))) (resizedFlag dims layout target (now (pixels .entry))) ⌝ }
+    ensures out { λ _. ⌜ now (out .exit) ≡ bufferIf (resizeNumber dims target (length (now (pixels .entry))) (length (now (out .entry))) (length (now (work .entry)))) (resized dims layout target (now (pixels .entry))) (now (out .entry)) ⌝ }
+    ensures work { λ _. ⌜ now (work .exit) ≡ bufferIf (resizeNumber dims target (length (now (pixels .entry))) (length (now (out .entry))) (length (now (work .entry)))) (resizedWork dims layout target (now (pixels .entry)) (now (work .entry))) (now (work .entry)) ⌝ }
+{
+    resize(dims, layout, target, pixels, out, work)
 }
 
 impl<'a> ImageRef<'a> {
@@ -78,5 +98,15 @@ impl<'a> ImageRef<'a> {
         ensures out { λ _. ⌜ now (out .exit) ≡ bufferIf (cropNumber (self .entry .dims) rect (length (now (self .entry .pixels))) (length (now (out .entry)))) (cropped (self .entry .dims) rect (now (self .entry .pixels))) (now (out .entry)) ⌝ }
     {
         crop_of(self.dims, self.layout, self.pixels, rect, out)
+    }
+
+    // The Rust's resize.
+    pub fn resize(self, target: Dimensions, out: &mut [u8], work: &mut [u32]) -> Flagged
+        ensures number { λ r. ⌜ flaggedNumber r ≡ resizeNumber (self .entry .dims) target (length (now (self .entry .pixels))) (length (now (out .entry))) (length (now (work .entry))) ⌝ }
+        ensures flag { λ r. ⌜ flaggedFlag r ≡ flagIf (resizeNumber (self .entry .dims) target (length (now (self .entry .pixels))) (length (now (out .entry))) (length (now (work .entry)))) (resizedFlag (self .entry .dims) (self .entry .layout) target (now (self .entry .pixels))) ⌝ }
+        ensures out { λ _. ⌜ now (out .exit) ≡ bufferIf (resizeNumber (self .entry .dims) target (length (now (self .entry .pixels))) (length (now (out .entry))) (length (now (work .entry)))) (resized (self .entry .dims) (self .entry .layout) target (now (self .entry .pixels))) (now (out .entry)) ⌝ }
+        ensures work { λ _. ⌜ now (work .exit) ≡ bufferIf (resizeNumber (self .entry .dims) target (length (now (self .entry .pixels))) (length (now (out .entry))) (length (now (work .entry)))) (resizedWork (self .entry .dims) (self .entry .layout) target (now (self .entry .pixels)) (now (work .entry))) (now (work .entry)) ⌝ }
+    {
+        resize_of(self.dims, self.layout, self.pixels, target, out, work)
     }
 }
