@@ -1,16 +1,19 @@
 // A borrowed picture (document 01, "Lanes": "A borrowed picture, as `ImageRef`, holds size, layout and pixels"; the Rust: ImageRef of image.rs).
 // Each function over it takes it apart and calls a function of plain parameters, which does the work.
 use picture::resize;
+use pixels::Checked;
 use pixels::Dimensions;
 use pixels::Flagged;
 use pixels::PixelLayout;
 use pixels::Rect;
+use pixels::Refusal;
+use pixels::Sized;
 use pixels::crop;
 use pixels::picture_has_alpha;
 ghost use mathlib.Core.Path.{_≡_};
 ghost use Prim.Native.Nat.{_*_};
 ghost use lib.ListN.{length};
-ghost use Rattle.pixels.specs.Refusals.{flaggedNumber, flaggedFlag, flagIf, bufferIf};
+ghost use Rattle.pixels.specs.Refusals.{checkedNumber, flaggedNumber, flaggedFlag, flagIf, bufferIf};
 ghost use Rattle.pixels.specs.Picture.{hasAlpha, pictureNumber, cropped, cropNumber};
 ghost use Rattle.claim.specs.Rows.{resized, resizedFlag};
 ghost use Rattle.picture.specs.Resize.{resizeNumber, resizedWork};
@@ -19,6 +22,30 @@ pub struct ImageRef<'a> {
     pub dims: Dimensions,
     pub layout: PixelLayout,
     pub pixels: &'a [u8],
+}
+
+// What `new` answers: the picture, and whether its size and its length pass. An enum cannot hold a reference, so the picture is there in each case; one that does
+// not pass is refused again wherever it is used.
+pub struct Borrowed<'a> {
+    pub checked: Checked,
+    pub image: ImageRef<'a>,
+}
+
+// Numbers 1 and 3, in that order, of a picture of the size in these bytes.
+fn check_of(dims: Dimensions, pixels: &[u8]) -> Checked
+    ensures { λ r. ⌜ checkedNumber r ≡ pictureNumber dims (length (now (pixels .entry))) ⌝ }
+{
+    let sized = Dimensions::new(dims.width, dims.height);
+    match sized {
+        Sized::Refused(why) => {
+            return Checked::Refused(why);
+        }
+        Sized::Size(_) => {}
+    }
+    if pixels.len() as u64 != 4 * dims.pixel_count() {
+        return Checked::Refused(Refusal::PixelBufferMismatch);
+    }
+    Checked::Fit
 }
 
 // The work of has_alpha, on the fields in their order.
@@ -62,6 +89,24 @@ fn resize_of(
 }
 
 impl<'a> ImageRef<'a> {
+    // The Rust's new.
+    pub fn new(dims: Dimensions, layout: PixelLayout, pixels: &'a [u8]) -> Borrowed<'a>
+        ensures number { λ r. ⌜ checkedNumber (r .checked) ≡ pictureNumber dims (length (now (pixels .entry))) ⌝ }
+        ensures dims { λ r. ⌜ r .image .dims ≡ dims ⌝ }
+        ensures layout { λ r. ⌜ r .image .layout ≡ layout ⌝ }
+        ensures pixels { λ r. ⌜ r .image .pixels ≡ pixels .entry ⌝ }
+    {
+        let checked = check_of(dims, pixels);
+        Borrowed {
+            checked,
+            image: ImageRef {
+                dims,
+                layout,
+                pixels,
+            },
+        }
+    }
+
     // The Rust's dimensions.
     pub fn dimensions(self) -> Dimensions
         ensures { λ r. ⌜ r ≡ self .entry .dims ⌝ }
