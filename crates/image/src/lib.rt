@@ -48,7 +48,7 @@ fn check_of(dims: Dimensions, pixels: &[u8]) -> Checked
     Checked::Fit
 }
 
-// The work of has_alpha, on the fields in their order.
+// The work of has_alpha, on plain parameters: the fields in their order.
 fn flag_of(dims: Dimensions, layout: PixelLayout, pixels: &[u8]) -> Flagged
     ensures number { λ r. ⌜ flaggedNumber r ≡ pictureNumber dims (length (now (pixels .entry))) ⌝ }
     ensures flag { λ r. ⌜ flaggedFlag r ≡ flagIf (pictureNumber dims (length (now (pixels .entry)))) (hasAlpha layout (now (pixels .entry)) (dims .width * dims .height)) ⌝ }
@@ -56,7 +56,7 @@ fn flag_of(dims: Dimensions, layout: PixelLayout, pixels: &[u8]) -> Flagged
     picture_has_alpha(dims, layout, pixels)
 }
 
-// The work of crop.
+// The work of crop: the fields in their order, and its parameters.
 fn crop_of(
     dims: Dimensions,
     layout: PixelLayout,
@@ -71,7 +71,7 @@ fn crop_of(
     crop(dims, layout, pixels, rect, out)
 }
 
-// The work of resize.
+// The work of resize: the fields in their order, and its parameters.
 fn resize_of(
     dims: Dimensions,
     layout: PixelLayout,
@@ -89,7 +89,8 @@ fn resize_of(
 }
 
 impl<'a> ImageRef<'a> {
-    // The Rust's new.
+    // The Rust's new, which tests the length; the size is tested too, since a size counts, whoever filled it.
+    // Rules out: a length of three bytes for each pixel passed; the size handed back with its sides exchanged.
     pub fn new(dims: Dimensions, layout: PixelLayout, pixels: &'a [u8]) -> Borrowed<'a>
         ensures number { λ r. ⌜ checkedNumber (r .checked) ≡ pictureNumber dims (length (now (pixels .entry))) ⌝ }
         ensures dims { λ r. ⌜ r .image .dims ≡ dims ⌝ }
@@ -107,28 +108,28 @@ impl<'a> ImageRef<'a> {
         }
     }
 
-    // The Rust's dimensions.
+    // The Rust's dimensions. Rules out: the sides exchanged; no size.
     pub fn dimensions(self) -> Dimensions
         ensures { λ r. ⌜ r ≡ self .entry .dims ⌝ }
     {
         self.dims
     }
 
-    // The Rust's layout.
+    // The Rust's layout. Rules out: the first layout always; the last always.
     pub fn layout(self) -> PixelLayout
         ensures { λ r. ⌜ r ≡ self .entry .layout ⌝ }
     {
         self.layout
     }
 
-    // The Rust's as_bytes.
+    // The Rust's as_bytes. Rules out: no bytes; the bytes after the first.
     pub fn as_bytes(self) -> &'a [u8]
         ensures { λ r. ⌜ r ≡ self .entry .pixels ⌝ }
     {
         self.pixels
     }
 
-    // The Rust's has_alpha.
+    // The alpha flag, as the Rust's Image::new derives it. Rules out: the flag of another layout; the flag of a square's pixels.
     pub fn has_alpha(self) -> Flagged
         ensures number { λ r. ⌜ flaggedNumber r ≡ pictureNumber (self .entry .dims) (length (now (self .entry .pixels))) ⌝ }
         ensures flag { λ r. ⌜ flaggedFlag r ≡ flagIf (pictureNumber (self .entry .dims) (length (now (self .entry .pixels)))) (hasAlpha (self .entry .layout) (now (self .entry .pixels)) (self .entry .dims .width * self .entry .dims .height)) ⌝ }
@@ -136,7 +137,7 @@ impl<'a> ImageRef<'a> {
         flag_of(self.dims, self.layout, self.pixels)
     }
 
-    // The Rust's crop.
+    // The Rust's Image::crop. Rules out: the flag of another layout; the output left as it was.
     pub fn crop(self, rect: Rect, out: &mut [u8]) -> Flagged
         ensures number { λ r. ⌜ flaggedNumber r ≡ cropNumber (self .entry .dims) rect (length (now (self .entry .pixels))) (length (now (out .entry))) ⌝ }
         ensures flag { λ r. ⌜ flaggedFlag r ≡ flagIf (cropNumber (self .entry .dims) rect (length (now (self .entry .pixels))) (length (now (out .entry)))) (hasAlpha (self .entry .layout) (cropped (self .entry .dims) rect (now (self .entry .pixels))) (rect .width * rect .height)) ⌝ }
@@ -145,7 +146,7 @@ impl<'a> ImageRef<'a> {
         crop_of(self.dims, self.layout, self.pixels, rect, out)
     }
 
-    // The Rust's resize.
+    // The Rust's Image::resize. Rules out: a picture of the source's own size; the work values left as they were.
     pub fn resize(self, target: Dimensions, out: &mut [u8], work: &mut [u32]) -> Flagged
         ensures number { λ r. ⌜ flaggedNumber r ≡ resizeNumber (self .entry .dims) target (length (now (self .entry .pixels))) (length (now (out .entry))) (length (now (work .entry))) ⌝ }
         ensures flag { λ r. ⌜ flaggedFlag r ≡ flagIf (resizeNumber (self .entry .dims) target (length (now (self .entry .pixels))) (length (now (out .entry))) (length (now (work .entry)))) (resizedFlag (self .entry .dims) (self .entry .layout) target (now (self .entry .pixels))) ⌝ }

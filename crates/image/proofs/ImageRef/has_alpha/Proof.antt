@@ -46,11 +46,9 @@ use Rattle.pixels.specs.Picture.{hasAlpha, pictureNumber}
 use Rattle.pixels.specs.declared.Flagged.{Flagged}
 use Rattle.image.specs.declared.ImageRef.{ImageRef}
 use Rattle.image.proofs.Clauses.{says-two}
+use Rattle.image.proofs.Tag.{tag, of-its-type}
 use Rattle.image.proofs.ImageRef as T
-use Rattle.pixels.specs.declared.PixelLayout.{PixelLayout}
-use Rattle.pixels.specs.declared.PixelLayout.the-variants.{Rgba8, Argb8, Bgra8}
 use Rattle.pixels.proofs.PixelLayout as E
-use Rattle.pixels.proofs.PixelLayout.Laws as E′
 use Rattle.pixels.proofs.Dimensions as S
 use Rattle.pixels.proofs.Dimensions.Laws as S′
 use Rattle.pixels.proofs.Flagged as F
@@ -65,12 +63,6 @@ use Rattle.image.proofs.ImageRef.has_alpha.Key.{name as #image·has-alp
 use Rattle.image.proofs.ImageRef.has_alpha as ok
 use Rattle.image.proofs.ImageRef.has_alpha.Statement as stated
 use Rattle.image.proofs.ImageRef.has_alpha.Code as code
-
--- the enum's machine value has its type, at each variant
-of-its-type : (l : PixelLayout) → Holds (hasTy E′.mir (EL.val E.the-type E′.the-laws l))
-of-its-type Rgba8 = tt
-of-its-type Argb8 = tt
-of-its-type Bgra8 = tt
 
 -- the struct's type, over the signature's lifetimes
 abbrev B : Lfts 1 → RattleType
@@ -121,7 +113,7 @@ module _ {M : Type 1} (𝓤 : URA M) (H : Heap 𝓤) (A : Atoms 𝓤) (W : Given
 
   -- what the callee is passed
   abbrev passed : Vals flag.signature (κ, tt)
-  passed = (LL.val S.the-type S′.the-laws (d .dims) ∷ [], (EL.val E.the-type E′.the-laws (d .layout) ∷ [], (v ∷ [], tt)))
+  passed = (LL.val S.the-type S′.the-laws (d .dims) ∷ [], (tag (d .layout) ∷ [], (v ∷ [], tt)))
 
   abbrev to : FlagC 𝓤 H A mem run .Ghost
   to = (((κ, tt), (q, tt), tt, vd, passed), tt)

@@ -31,24 +31,14 @@ use denote.Triple.Spec.{Meets, tripleOf}
 use denote.Triple.Table.{entered}
 use denote.Triple.Walked.{says, Stays, stay-none, walkOf, goes-none, Walks, ends-at, walked, walk-meets}
 use denote.Exit.{yes}
-use denote.Enum.Laws as EL
-use Rattle.pixels.specs.declared.PixelLayout.{PixelLayout}
-use Rattle.pixels.specs.declared.PixelLayout.the-variants.{Rgba8, Argb8, Bgra8}
-use Rattle.pixels.proofs.PixelLayout as E
-use Rattle.pixels.proofs.PixelLayout.Laws as E′
 use Rattle.image.specs.declared.ImageRef.{ImageRef}
+use Rattle.image.proofs.Tag.{tag, of-its-type}
 use Rattle.image.proofs.ImageRef as T
 use Rattle.image.proofs.ImageRef.Laws as T′
 use Rattle.image.proofs.ImageRef.layout.Key.{name as #image·layout}
 use Rattle.image.proofs.ImageRef.layout as it
 use Rattle.image.proofs.ImageRef.layout.Statement as stated
 use Rattle.image.proofs.ImageRef.layout.Code as code
-
--- the enum's machine value has its type, at each variant
-of-its-type : (l : PixelLayout) → Holds (hasTy E′.mir (EL.val E.the-type E′.the-laws l))
-of-its-type Rgba8 = tt
-of-its-type Argb8 = tt
-of-its-type Bgra8 = tt
 
 -- the struct's type, over the signature's lifetimes
 abbrev B : Lfts 1 → RattleType
@@ -74,7 +64,7 @@ module _ {M : Type 1} (𝓤 : URA M) (H : Heap 𝓤) (A : Atoms 𝓤) (W : Given
 
   -- the machine value of the layout
   abbrev v : Val
-  v = EL.val E.the-type E′.the-laws (d .layout)
+  v = tag (d .layout)
 
   abbrev Post : Val → SProp 𝓤
   Post = walkOf 𝓤 H A it.ended stayed (it.clauses 𝓤 H A mem run) .post (((κ, tt), (q, tt), tt, (d, tt), (mach ∷ [], tt)), tt)
