@@ -279,6 +279,7 @@ static void once(Side s, const Job* j) {
     uint8_t* const pixels = room(4 * source_pixels(j));
     make_pixels(&state, 0, pixels, source_pixels(j));
     void* const image = original_new(0, j->w, j->h, pixels);
+    free(pixels);
     original_scale(image, cropped(j), j->x, j->y, j->cw, j->ch, j->tw, j->th);
 #endif
 #ifndef NO_LIBWEBP
