@@ -1,6 +1,8 @@
 // A borrowed picture (document 01, "Lanes": "A borrowed picture, as `ImageRef`, holds size, layout and pixels"; the Rust: ImageRef of image.rs).
 // Each function over it takes it apart and calls a function of plain parameters, which does the work.
 use picture::resize;
+use pictures::crop;
+use pictures::picture_has_alpha;
 use pixels::Checked;
 use pixels::Dimensions;
 use pixels::Flagged;
@@ -8,8 +10,6 @@ use pixels::PixelLayout;
 use pixels::Rect;
 use pixels::Refusal;
 use pixels::Sized;
-use pixels::crop;
-use pixels::picture_has_alpha;
 ghost use mathlib.Core.Path.{_≡_};
 ghost use Prim.Native.Nat.{_*_};
 ghost use lib.ListN.{length};
