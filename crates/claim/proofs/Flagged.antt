@@ -13,15 +13,10 @@ use Rattle.pixels.specs.Sizes.{lanes, rowBytes}
 use Rattle.pixels.specs.Layout.{placeOf, alphaLane, alphaAt}
 use Rattle.pixels.specs.Picture.{someClear, hasAlpha}
 use Rattle.pixels.proofs.Tabled.{place-lt}
+use Rattle.pixels.proofs.Flags.{clear-cong}
 use Rattle.claim.specs.Rows.{joined}
 
 -- ---- alphas, pixel after pixel
-pub clear-cong : (a b : ℕ → ℕ) (n : ℕ) → ((i : ℕ) → i < n → a i ≡ b i) → someClear a n ≡ someClear b n
-unfolding someClear
-clear-cong a b zero same = refl
-clear-cong a b (suc n) same =
-    ap₂ (λ (f : Bool) (x : ℕ). f || not (eqb x 255)) (clear-cong a b n (λ i l. same i (omega arith))) (same n (omega arith))
-
 pub clear-append : (a : ℕ → ℕ) (n k : ℕ) → someClear a (n + k) ≡ (someClear a n || someClear (λ i. a (n + i)) k)
 unfolding someClear
 clear-append a n zero = let e : n + zero ≡ n = omega arith in rw e (sym (or-false (someClear a n)))

@@ -18,6 +18,7 @@ use Rattle.pixels.specs.Layout.{placeOf, laneAt, pixelAt}
 use Rattle.pixels.specs.Lanes.{matted}
 use Rattle.pixels.specs.Picture.{windowOf}
 use Rattle.pixels.proofs.Tabled.{place-lt}
+use Rattle.pixels.proofs.Windows.{window-byte}
 use Rattle.rows.specs.Column.{value}
 use Rattle.rows.specs.Lanes.{rowValue}
 use Rattle.rowlaws.proofs.Monotone.{value-mono}
@@ -34,15 +35,6 @@ cropValue p b c x = value (mattedByte p b (x % lanes) c) (p .crop .width) (p .ta
 pub value-cong : (p q : ℕ → ℕ) (n m j : ℕ) → j < m → ((i : ℕ) → i < n → p i ≡ q i) → value p n m j ≡ value q n m j
 value-cong p q n m j within same =
     le-antisymm (value-mono p q n m j within (λ i l. omega (arith, same i l))) (value-mono q p n m j within (λ i l. omega (arith, same i l)))
-
--- ---- the window of a row
-module _ (row : List ℕ) (x w : ℕ) (inside : rowBytes (x + w) ≤ length row) where
-  window-is : windowOf row x w ≡ take (rowBytes w) (drop (rowBytes x) row)
-  unfolding windowOf
-  window-is = simp (le-leb (rowBytes (x + w)) (length row) inside)
-
-  pub window-byte : (z : ℕ) → z < rowBytes w → getD (windowOf row x w) z 0 ≡ getD row (rowBytes x + z) 0
-  window-byte z l = rw window-is (getD-take (rowBytes w) (drop (rowBytes x) row) z 0 l ∙ getD-drop (rowBytes x) row z 0)
 
 -- ---- a source row, its bytes being those of b from its start on
 module _ (p : Plan) (b : ℕ → ℕ) (row : List ℕ) (c : ℕ) (fits : Fits (p .source) (p .crop) (p .target)) (long : length row ≡ rowBytes (p .source .width)) (agrees : (z : ℕ) → z < rowBytes (p .source .width) → getD row z 0 ≡ b (rowBytes (p .source .width) * (p .crop .y + c) + z)) where

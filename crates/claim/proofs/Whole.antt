@@ -32,15 +32,10 @@ use Rattle.claim.specs.Rows.{sourceByte, mattedByte, scaledLane, rowOf, 
 use Rattle.claim.specs.Calls.{Run}
 use Rattle.arithmetic.proofs.Mattes.{pixel-cong}
 use Rattle.job.proofs.Restoring.{restored-cong}
-use Rattle.claim.proofs.Reading.{value-cong, window-byte}
+use Rattle.pixels.proofs.Windows.{window-byte, window-length}
+use Rattle.claim.proofs.Reading.{value-cong}
 use Rattle.claim.proofs.Feeding.{row-length, row-byte}
 use Rattle.claim.proofs.Flagged.{joined-append}
-
-pub window-length : (row : List ℕ) (x w : ℕ) → rowBytes (x + w) ≤ length row → length (windowOf row x w) ≡ rowBytes w
-unfolding windowOf
-window-length row x w inside =
-    simp (le-leb (rowBytes (x + w)) (length row) inside)
-    (length-take-le (rowBytes w) (drop (rowBytes x) row) (omega (arith, length-drop (rowBytes x) row)))
 
 -- ---- the cropped picture
 

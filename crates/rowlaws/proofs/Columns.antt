@@ -17,21 +17,13 @@ use Rattle.arithmetic.proofs.Quotients.{ceil-low, ceil-high, ceil-le}
 use Rattle.arithmetic.proofs.FixedPoints.{mean-high, mean-low}
 use Rattle.arithmetic.proofs.Sums.{sum-cong, sum-term, sum-weighted-le}
 use Rattle.arithmetic.proofs.Weights.{span-shrink, span-grow, weight-shrink, weight-grow, shrink-sum, weight-total}
+use Rattle.rows.proofs.Columns.{value-shrink, value-grow, over-small}
 use Rattle.rowlaws.proofs.Close.{Close}
 use Rattle.rows.specs.Column.{start, over, last, columnSum, carry, shrinkValue, growValue, value}
 
 -- the exact weighted sum of column j
 abbrev pub exact : (ℕ → ℕ) → ℕ → ℕ → ℕ → ℕ
 exact p n m j = sum (λ i. weight n m j i * p i) 0 n
-
--- ---- which formula is meant
-pub value-shrink : (p : ℕ → ℕ) (n m j : ℕ) → m ≤ n → value p n m j ≡ shrinkValue p n m j
-unfolding value
-value-shrink p n m j h = simp (le-leb m n h)
-
-pub value-grow : (p : ℕ → ℕ) (n m j : ℕ) → n < m → value p n m j ≡ growValue p n m j
-unfolding value
-value-grow p n m j h = simp (lt-leb m n h)
 
 -- ---- where columns start: s 0 = 0, s j < s (j+1) and s (j+1) ≤ n
 pub start-low : (n m j : ℕ) → 0 < m → j * n ≤ start n m j * m
@@ -59,9 +51,6 @@ start-within n m j within = ceil-le m (omega arith) (omega (arith, mul-le-mul-ri
 pub over-is : (n m j : ℕ) → 0 < m → over n m j + suc j * n ≡ start n m (suc j) * m
 unfolding over
 over-is n m j pos = omega (arith, start-low n m (suc j) pos)
-
-pub over-small : (n m j : ℕ) → 0 < m → over n m j < m
-over-small n m j pos = omega (arith, over-is n m j pos, start-high n m (suc j) pos)
 
 pub over-none : (n j : ℕ) → 0 < n → over n n j ≡ 0
 over-none n j pos = go (start n n (suc j)) (over n n j) (over-is n n j pos) (over-small n n j pos)

@@ -20,6 +20,7 @@ use Rattle.schedule.proofs.Needed.{needed-some, needed-equal}
 use Rattle.rows.specs.Output.{restDown, share, ratio, leftDown}
 use Rattle.rows.specs.WorkRows.{rowIn, halfOf, byteOut, rowLeft}
 use Rattle.rows.specs.Closed.{newest, shareBefore, heap, scaledByte}
+use Rattle.rowlaws.proofs.HeightShrinks.{share-le}
 use Rattle.rowlaws.proofs.WorkRows.{half-two, half-room, in-first, in-second, in-own, in-other, rowIn-length, out-up, out-first, out-second, rowLeft-length}
 
 -- w values in each half
@@ -41,14 +42,6 @@ newest-word v small (suc u) = small u
 pub share-none : (g d s : ℕ) → d ≡ 0 → share g d s ≡ 0
 unfolding share
 share-none g d s e = simp (eq-eqb d 0 e)
-
-pub share-le : (g d s : ℕ) → share g d s ≤ s
-unfolding share
-share-le g d s = by (le-or-lt d 0)
-  where
-    by : (d ≤ 0) ⊎ (0 < d) → share g d s ≤ s
-    by (inl l) = rw (share-none g d s (omega arith)) (omega arith)
-    by (inr l) = simp (ne-eqb d 0 (omega arith)) (FLOOR-le s (wrapMul (FRAC 1 g) d) (omega arith))
 
 -- q is 2^32 only where the heights are equal (and the span is 1)
 pub ratio-one : (sp h g : ℕ) → g ≤ h → ratio sp h g ≡ 2 ^ 32 → g ≡ h

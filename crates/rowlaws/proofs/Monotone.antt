@@ -22,7 +22,8 @@ use Rattle.schedule.proofs.Needed.{needed-le, needed-equal, since-rise}
 use Rattle.rows.specs.Column.{start, over, last, columnSum, carry, shrinkValue, growValue, value}
 use Rattle.rows.specs.Output.{clamp, restDown, share, ratio, byteDown, restUp, blend, byteUp}
 use Rattle.rows.specs.Closed.{newest, shareBefore, heap, scaledByte, scaled}
-use Rattle.rowlaws.proofs.Columns.{value-shrink, value-grow, start-step, start-within, over-small, slack-small, value-range-511}
+use Rattle.rows.proofs.Columns.{value-shrink, value-grow, over-small}
+use Rattle.rowlaws.proofs.Columns.{start-step, start-within, slack-small, value-range-511}
 use Rattle.rowlaws.proofs.HeightShrinks.{share-is, share-le, whole-fits, scaled-down, heap-exact, byte-whole, byte-part, ratio-whole}
 use Rattle.rowlaws.proofs.HeightGrows.{scaled-up}
 
