@@ -228,10 +228,11 @@ static void measure(const Job* j, int translucent, int rounds, double median[SID
   for (int r = -1; r < rounds; ++r) { /* round -1 warms up */
     int made = 0;
     l.layout = (uint32_t)(r + 1) % 3;
-    for (size_t i = 0; i < n; ++i) pack(l.layout, argb[i], l.pixels + 4 * i);
     for (int k = 0; k < SIDES; ++k) {
       const Side s = (Side)((k + r + 1) % SIDES);
       if (!at_hand(s)) continue;
+      /* Each side's source was just written: the original and libwebp get copies. */
+      for (size_t i = 0; i < n; ++i) pack(l.layout, argb[i], l.pixels + 4 * i);
       memset(l.out, 0x5c, out);
       const double t = time_side(s, &l);
       if (r >= 0) spent[s][r] = t / (double)n;
