@@ -64,6 +64,8 @@ trials l =
     ∷ trial
     (bit (resizedFlag (sizeOf 1 6) l (sizeOf 1 5) (opaque l (255 ∷ 255 ∷ 255 ∷ 255 ∷ 255 ∷ 255 ∷ []))) ∷ [])
     (1 ∷ [])
+    -- equal sizes under alpha are no copy ("Traps")
+    ∷ trial (resized (sizeOf 1 1) l (sizeOf 1 1) (pixel l 128 200 200 200)) (pixel l 128 199 199 199)
     -- "1 by 1 to 1 by 2: all 0"
     ∷ trial (resized (sizeOf 1 1) l (sizeOf 1 2) (pixel l 255 10 20 30)) (pixel l 0 0 0 0 ++ pixel l 0 0 0 0)
     -- "Opaque 1 by 1 to 2 by 1: the pixel twice"
