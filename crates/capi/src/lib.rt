@@ -17,11 +17,12 @@ ghost use lib.Dec.{ltb};
 ghost use lib.ListN.{length};
 ghost use Rattle.pixels.specs.Refusals.{number, bufferIf, flaggedNumber, flaggedFlag};
 ghost use Rattle.pixels.specs.Sizes.{sizeOf, rectOf, scaledNumber, scaledSize};
-ghost use Rattle.pixels.specs.Picture.{hasAlpha, pictureNumber, cropped, cropNumber, withAlpha, alphaNumber};
+ghost use Rattle.pixels_alpha.specs.Alpha.{hasAlpha, pictureNumber, withAlpha, alphaNumber};
+ghost use Rattle.pixels_crop.specs.Crop.{cropped, cropNumber};
 ghost use Rattle.job.specs.Record.{fresh};
 ghost use Rattle.job.specs.Calls.{startNumber, startWork, offerNumber, offerRows, offerJob, offerWork, takeNumber, takeJob, takeOut, takeWork};
-ghost use Rattle.claim.specs.Rows.{resized, resizedFlag};
-ghost use Rattle.picture.specs.Resize.{resizeNumber, resizedWork};
+ghost use Rattle.job_claim.specs.Rows.{resized, resizedFlag};
+ghost use Rattle.job_resize.specs.Resize.{resizeNumber, resizedWork};
 ghost use Rattle.capi.specs.Words.{recordLength, wordsPlan, wordsJob, wordsLegal, recordFirst, storedJob};
 ghost use Rattle.capi.specs.Boundary.{boundaryFirst, misused, wordLayout, layoutWord, flagWord, stored, storedFlag, storedWord, storedSize};
 
@@ -309,7 +310,7 @@ pub extern "C" fn jonquilsaw_has_alpha(
     if misused(layout, flag.len(), 1) {
         return BOUNDARY;
     }
-    let answer = pictures::picture_has_alpha(
+    let answer = pixels_alpha::picture_has_alpha(
         Dimensions { width, height },
         layout_of(layout),
         pixels,
@@ -349,7 +350,7 @@ pub extern "C" fn jonquilsaw_crop(
         width: crop_width,
         height: crop_height,
     };
-    let answer = pictures::crop(source, layout_of(layout), pixels, rect, out);
+    let answer = pixels_crop::crop(source, layout_of(layout), pixels, rect, out);
     store_flag(answer, flag)
 }
 
@@ -383,7 +384,7 @@ pub extern "C" fn jonquilsaw_resize(
         width: target_width,
         height: target_height,
     };
-    let answer = picture::resize(source, layout_of(layout), target, pixels, out, work);
+    let answer = job_resize::resize(source, layout_of(layout), target, pixels, out, work);
     store_flag(answer, flag)
 }
 
@@ -405,7 +406,7 @@ pub extern "C" fn jonquilsaw_apply_alpha_plane(
     if misused(layout, flag.len(), 1) {
         return BOUNDARY;
     }
-    let answer = pictures::apply_alpha_plane(
+    let answer = pixels_alpha::apply_alpha_plane(
         Dimensions { width, height },
         layout_of(layout),
         pixels,

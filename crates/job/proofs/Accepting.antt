@@ -10,8 +10,8 @@ use native.Mathlib.Numerals.{add-one}
 use lib.ListN.{length, take, drop, length-drop}
 use lib.Seq.{length-take-le}
 use Rattle.pixels.specs.Sizes.{rowBytes, workValues}
-use Rattle.pixels.specs.Picture.{pictureRow}
-use Rattle.schedule.proofs.Crop.{rows-le}
+use Rattle.pixels_crop.specs.Crop.{pictureRow}
+use Rattle.rows_schedule.proofs.Crop.{rows-le}
 use Rattle.job.specs.declared.Plan.{Plan}
 use Rattle.job.specs.declared.Job.{Job}
 use Rattle.job.specs.Record.{R, Rules}

@@ -12,10 +12,10 @@ use Rattle.pixels.specs.declared.Refusal.{Refusal}
 use Rattle.pixels.specs.declared.Refusal.the-variants.{PixelBufferMismatch, OutputLength, WorkLength, InvalidRecord, RowReady, AllAccepted, NoneReady}
 use Rattle.pixels.specs.Refusals.{number}
 use Rattle.pixels.specs.Sizes.{rowBytes, workValues, sizesNumber}
-use Rattle.pixels.specs.Picture.{hasAlpha}
+use Rattle.pixels_alpha.specs.Alpha.{hasAlpha}
 use Rattle.pixels.proofs.Numbers.{number-pos}
 use Rattle.pixels.proofs.Causes.{refused-yes, refused-no, first-passes, first-stops}
-use Rattle.schedule.proofs.Crop.{rows-most}
+use Rattle.rows_schedule.proofs.Crop.{rows-most}
 use Rattle.job.specs.declared.Plan.{Plan}
 use Rattle.job.specs.declared.Job.{Job}
 use Rattle.job.specs.Record.{R, fresh, lawful, Rules}

@@ -14,14 +14,16 @@ use Rattle.arithmetic.proofs.Tables.{length-tabulate}
 use Rattle.pixels.specs.Refusals.{bufferIf}
 use Rattle.pixels.specs.Sizes.{rowBytes, halfValues, workValues, Fits}
 use Rattle.pixels.specs.Lanes.{matted}
-use Rattle.pixels.specs.Picture.{windowOf}
+use Rattle.pixels_crop.specs.Crop.{windowOf}
 use Rattle.pixels.proofs.Causes.{test}
 use Rattle.pixels.proofs.Fitting.{side-good}
-use Rattle.pixels.proofs.Windows.{window-length}
+use Rattle.pixels_crop.proofs.Windows.{window-length}
 use Rattle.rows.specs.Lanes.{rowValue}
 use Rattle.rows.specs.WorkRows.{written, added, rowIn, halfOf}
-use Rattle.rows.specs.Incoming.{importNumber, addNumber}
-use Rattle.rows.proofs.Incoming.{import-passes, add-passes}
+use Rattle.rows.specs.Incoming.{importNumber}
+use Rattle.rows_adding.specs.Adding.{addNumber}
+use Rattle.rows.proofs.Incoming.{import-passes}
+use Rattle.rows_adding.proofs.Adding.{add-passes}
 use Rattle.job.specs.declared.Plan.{Plan}
 use Rattle.job.specs.Calls.{valuesOf, rowAccepted}
 

@@ -12,16 +12,16 @@ use Rattle.arithmetic.specs.Weight.{span}
 use Rattle.arithmetic.proofs.Tables.{length-tabulate, getD-tabulate, tabulate-cong}
 use Rattle.pixels.specs.declared.Dimensions.{Dimensions}
 use Rattle.pixels.specs.Sizes.{rowBytes, halfValues, sizeOf}
-use Rattle.pixels.specs.Picture.{hasAlpha}
+use Rattle.pixels_alpha.specs.Alpha.{hasAlpha}
 use Rattle.pixels.proofs.Fitting.{side-good, size-good}
-use Rattle.schedule.specs.Schedule.{needed}
-use Rattle.schedule.proofs.Needed.{needed-used}
+use Rattle.rows_schedule.specs.Schedule.{needed}
+use Rattle.rows_schedule.proofs.Needed.{needed-used}
 use Rattle.rows.specs.WorkRows.{byteOut}
-use Rattle.rows.specs.Scaling.{due, scaleNumber, scaledOut, scaledWork}
-use Rattle.rows.specs.Restoring.{restoreNumber, restoredRow, restoredOut, rowFlag}
-use Rattle.rows.proofs.Dues.{needed-due}
-use Rattle.rows.proofs.Scalings.{scale-passes}
-use Rattle.rows.proofs.Restorings.{restore-passes}
+use Rattle.rows_scaling.specs.Scaling.{due, scaleNumber, scaledOut, scaledWork}
+use Rattle.rows_restoring.specs.Restoring.{restoreNumber, restoredRow, restoredOut, rowFlag}
+use Rattle.rows_scaling.proofs.Dues.{needed-due}
+use Rattle.rows_scaling.proofs.Scalings.{scale-passes}
+use Rattle.rows_restoring.proofs.Restorings.{restore-passes}
 use Rattle.job.specs.declared.Plan.{Plan}
 use Rattle.job.specs.declared.Job.{Job}
 use Rattle.job.specs.Calls.{usedBy, rowTaken, workTaken, takeNumber}

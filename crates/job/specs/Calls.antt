@@ -13,8 +13,9 @@ use Rattle.pixels.specs.declared.Refusal.the-variants.{PixelBufferMismatch, Out
 use Rattle.pixels.specs.Refusals.{refusedIf, firstOf}
 use Rattle.pixels.specs.Sizes.{rowBytes, halfValues, workValues, sizesNumber}
 use Rattle.pixels.specs.Lanes.{matted, restoredPlace}
-use Rattle.pixels.specs.Picture.{hasAlpha, windowOf, pictureRow}
-use Rattle.schedule.specs.Schedule.{used}
+use Rattle.pixels_alpha.specs.Alpha.{hasAlpha}
+use Rattle.pixels_crop.specs.Crop.{windowOf, pictureRow}
+use Rattle.rows_schedule.specs.Schedule.{used}
 use Rattle.rows.specs.Lanes.{rowValue}
 use Rattle.rows.specs.WorkRows.{rowIn, byteOut, rowLeft}
 use Rattle.job.specs.declared.Plan.{Plan}

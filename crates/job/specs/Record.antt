@@ -7,7 +7,7 @@ use Rattle.pixels.specs.declared.Dimensions.{Dimensions}
 use Rattle.pixels.specs.declared.Rect.{Rect}
 use Rattle.pixels.specs.declared.PixelLayout.{PixelLayout}
 use Rattle.pixels.specs.Sizes.{sizesNumber, Fits}
-use Rattle.schedule.specs.Schedule.{rowsBy}
+use Rattle.rows_schedule.specs.Schedule.{rowsBy}
 use Rattle.job.specs.declared.Plan.{Plan}
 use Rattle.job.specs.declared.Job.{Job}
 

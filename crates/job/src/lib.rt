@@ -1,6 +1,6 @@
 // The job (document 01, "The job"; the Rust: Rescaler and rescale_plane of geometry.rs): a record by value that every call takes and hands back.
 // The caller lends the rows, the work values and the output row. Fields are public: a record that meets the rules counts, whoever filled it.
-use pictures::window;
+use pixels_crop::window;
 use pixels::Checked;
 use pixels::Dimensions;
 use pixels::PixelLayout;
@@ -8,12 +8,12 @@ use pixels::Rect;
 use pixels::Refusal;
 use pixels::check_sizes;
 use rows::Restored;
-use rows::add_halves;
+use rows_adding::add_halves;
 use rows::import_row;
-use rows_out::restore_row;
-use rows_out::scale_row;
-use schedule::rows_by;
-use schedule::used_rows;
+use rows_restoring::restore_row;
+use rows_scaling::scale_row;
+use rows_schedule::rows_by;
+use rows_schedule::used_rows;
 ghost use mathlib.Core.Path.{_≡_};
 ghost use mathlib.Core.Bool.{cond, _||_};
 ghost use mathlib.Core.List.{_++_};
@@ -22,7 +22,7 @@ ghost use lib.Dec.{leb};
 ghost use lib.ListN.{length, drop, replicate};
 ghost use Rattle.pixels.specs.Sizes.{rowBytes, halfValues, workValues, Fits};
 ghost use Rattle.rows.specs.WorkRows.{halfOf};
-ghost use Rattle.rows.specs.Restoring.{restoredFlag};
+ghost use Rattle.rows_restoring.specs.Restoring.{restoredFlag};
 ghost use Rattle.job.specs.Answers.{startedNumber, startedJob, offeredNumber, offeredRows, offeredJob, takenNumber, takenJob};
 ghost use Rattle.job.specs.Record.{R, planOf, fresh, lawful, readyOf, Rules};
 ghost use Rattle.job.specs.Calls.{startNumber, startWork, lentRows, rowAccepted, fed, count, offerNumber, offerRows, offerJob, offerWork, takeNumber, takeJob, takeOut, takeWork};

@@ -2,10 +2,5 @@ pub mod Numbers
 pub mod Fitting
 pub mod Causes
 pub mod Tabled
-pub mod Stretches
 pub mod Packing
-pub mod Flags
-pub mod Windows
-pub mod Planes
-pub mod Pictures
 pub mod Matted

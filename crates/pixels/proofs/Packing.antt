@@ -17,7 +17,7 @@ use Rattle.pixels.specs.Refusals.{number}
 use Rattle.pixels.specs.Sizes.{lanes}
 use Rattle.pixels.specs.Layout.{placeOf, laneAt, pixelAt, unpacked, packed, unpackedPixels, packedByte, packedPixels, packNumber, unpackNumber}
 use Rattle.pixels.proofs.Numbers.{length-refused, length-passes}
-use Rattle.pixels.proofs.Stretches.{stretch, tabulate-add}
+use Rattle.arithmetic.proofs.Stretches.{stretch, tabulate-add}
 use Rattle.pixels.proofs.Tabled.{place-lt, place-twice}
 
 -- what four bytes unpack to, the lanes read where the table says

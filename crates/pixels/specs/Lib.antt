@@ -2,4 +2,3 @@ pub mod Refusals
 pub mod Sizes
 pub mod Layout
 pub mod Lanes
-pub mod Picture

@@ -85,15 +85,15 @@ fn layout(l: PixelLayout) {
 fn slices() {
     let bytes = [0x22u8, 0x33, 0x44, 0x11, 9, 9, 9];
     let mut one = [0u32; 1];
-    checked(packing::unpack_pixels(PixelLayout::Rgba8, &bytes, &mut one));
+    checked(pixels_packing::unpack_pixels(PixelLayout::Rgba8, &bytes, &mut one));
     line(one[0]);
     let mut two = [7u32; 2];
-    checked(packing::unpack_pixels(PixelLayout::Rgba8, &bytes, &mut two));
+    checked(pixels_packing::unpack_pixels(PixelLayout::Rgba8, &bytes, &mut two));
     line(two[0]);
     let mut out = [0u8; 4];
-    checked(packing::pack_pixels(PixelLayout::Argb8, &one, &mut out));
+    checked(pixels_packing::pack_pixels(PixelLayout::Argb8, &one, &mut out));
     byte(out[0]);
-    flag(packing::argb_has_alpha(&one));
+    flag(pixels_packing::argb_has_alpha(&one));
 }
 
 // A picture 2 by 2: cropped to its right column, and given an alpha plane.
@@ -103,9 +103,9 @@ fn pictures() {
         height: 2,
     };
     let mut pixels = [1u8, 2, 3, 255, 4, 5, 6, 255, 7, 8, 9, 0, 10, 11, 12, 255];
-    flagged(pictures::picture_has_alpha(size, PixelLayout::Rgba8, &pixels));
+    flagged(pixels_alpha::picture_has_alpha(size, PixelLayout::Rgba8, &pixels));
     let mut out = [0u8; 8];
-    flagged(pictures::crop(
+    flagged(pixels_crop::crop(
         size,
         PixelLayout::Rgba8,
         &pixels,
@@ -114,14 +114,14 @@ fn pictures() {
     ));
     byte(out[0]);
     byte(out[4]);
-    flagged(pictures::crop(
+    flagged(pixels_crop::crop(
         size,
         PixelLayout::Rgba8,
         &pixels,
         Rect::new(0, 0, 1, 1),
         &mut out,
     ));
-    flagged(pictures::apply_alpha_plane(
+    flagged(pixels_alpha::apply_alpha_plane(
         size,
         PixelLayout::Rgba8,
         &mut pixels,
@@ -129,9 +129,9 @@ fn pictures() {
     ));
     byte(pixels[11]);
     byte(pixels[15]);
-    flagged(pictures::apply_alpha_plane(size, PixelLayout::Rgba8, &mut pixels, b"\xff"));
-    count(pictures::window(&pixels, 1, 3).len());
-    count(pictures::window(&pixels, 1, 4).len());
+    flagged(pixels_alpha::apply_alpha_plane(size, PixelLayout::Rgba8, &mut pixels, b"\xff"));
+    count(pixels_crop::window(&pixels, 1, 3).len());
+    count(pixels_crop::window(&pixels, 1, 4).len());
 }
 
 fn checked(r: Checked) {

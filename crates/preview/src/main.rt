@@ -13,14 +13,12 @@ use pixels::PixelLayout;
 use pixels::Rect;
 use pixels::Refusal;
 use pixels::Sized;
+use preview_decimal::NONE;
+use preview_decimal::number;
 ghost use Prim.Native.Nat.{_≤_};
 ghost use lib.ListN.{length};
 ghost use Rattle.pixels.specs.Sizes.{rowBytes};
 
-mod decimal;
-
-use decimal::NONE;
-use decimal::number;
 
 fn say(line: &[u8]) {
     io::write_all(STDERR_FILENO, line);

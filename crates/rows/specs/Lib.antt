@@ -7,7 +7,3 @@ pub mod Lanes
 pub mod Done
 pub mod Incoming
 pub mod Import
-pub mod Scaling
-pub mod Export
-pub mod Restoring
-pub mod Pixelwise

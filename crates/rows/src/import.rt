@@ -19,8 +19,8 @@ ghost use Rattle.pixels.specs.Sizes.{maxSide, lanes, halfValues, badSide};
 ghost use Rattle.pixels.specs.Refusals.{bufferIf};
 ghost use Rattle.pixels.specs.Lanes.{matted};
 ghost use Rattle.rows.specs.Done.{doneNumber};
-ghost use Rattle.rows.specs.Incoming.{importNumber, addNumber};
-ghost use Rattle.rows.specs.WorkRows.{written, added};
+ghost use Rattle.rows.specs.Incoming.{importNumber};
+ghost use Rattle.rows.specs.WorkRows.{written};
 ghost use Rattle.rows.specs.Lanes.{rowValue};
 ghost use Rattle.rows.specs.Import.{at, Four, laneBytes, mattedAt, PixelAsks, Within, InLanes, GatherAsks, Gathers, Finished, ColumnAsks, Columns, RowAsks, Second, AdvanceAsks, Advances};
 
@@ -384,33 +384,5 @@ pub fn import_row(
         return Done::Refused(Refusal::WorkLength);
     }
     write_row(row, n, m, layout.places(), half);
-    Done::Done
-}
-
-fn add_to_first(work: &mut [u32], w: usize)
-    requires { ⌜ w + w ≤ length (now work) ⌝ }
-    ensures { λ _. ⌜ now (work .exit) ≡ added w (now (work .entry)) ⌝ }
-{
-    let mut k = 0usize;
-    while k < w {
-        work[k] = wrapping_add_u32(work[k], work[w + k]);
-        k += 1;
-    }
-}
-
-// The second half added to the first, modulo 2^32; the second stays.
-// Rules out: a sum that saturates; the last value left out; the sum put into the second half.
-pub fn add_halves(target_width: u32, work: &mut [u32]) -> Done
-    ensures number { λ r. ⌜ doneNumber r ≡ addNumber «target_width» (length (now (work .entry))) ⌝ }
-    ensures work { λ _. ⌜ now (work .exit) ≡ bufferIf (addNumber «target_width» (length (now (work .entry)))) (added (halfValues «target_width») (now (work .entry))) (now (work .entry)) ⌝ }
-{
-    if bad_width(target_width) {
-        return Done::Refused(Refusal::InvalidDimensions);
-    }
-    let w = 4 * target_width as usize;
-    if work.len() < 2 * w {
-        return Done::Refused(Refusal::WorkLength);
-    }
-    add_to_first(work, w);
     Done::Done
 }

@@ -4,7 +4,7 @@ use mathlib.Core.Path.{_≡_, _∙_, sym, ap}
 use Prim.Native.Nat.{_≤_, _<_, _-_, _+_}
 use native.Mathlib.Omega.{arith}
 use lib.ListN.{length}
-use Rattle.pixels.proofs.Windows.{row-part}
+use Rattle.pixels_crop.proofs.Windows.{row-part}
 use Rattle.job.proofs.Views.{offer-went}
 use Rattle.job.proofs.Accepting.{Accepting, accepting-first, in-lent, row-long, room, in-range, accepting-full, accepting-ready, next-count, accepting-more}
 use Rattle.job.proofs.accept.Statement.{statement}

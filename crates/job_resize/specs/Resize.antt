@@ -1,0 +1,50 @@
+-- `resize` (document 01, "The job"): "a job with the full crop; its work values end as that job's last take leaves them". Its pixels and its flag are
+-- claim's `resized` and `resizedFlag`; here are its numbers and its work values. Assumes nothing.
+use Prim.Native.Nat.{ℕ, zero, suc, _+_, _-_, _*_, _/_, _%_, _^_}
+use mathlib.Core.Bool.{Bool, cond, not}
+use mathlib.Core.List.{List, _++_}
+use lib.Dec.{eqb, ltb, leb}
+use lib.ListN.{length, getD, drop}
+use Rattle.arithmetic.specs.Table.{tabulate}
+use Rattle.pixels.specs.declared.Dimensions.{Dimensions}
+use Rattle.pixels.specs.declared.PixelLayout.{PixelLayout}
+use Rattle.pixels.specs.declared.Refusal.the-variants.{PixelBufferMismatch, OutputLength, WorkLength}
+use Rattle.pixels.specs.Refusals.{refusedIf, firstOf}
+use Rattle.pixels.specs.Sizes.{lanes, halfValues, workValues, pictureBytes, sizesNumber}
+use Rattle.rows.specs.Column.{value}
+use Rattle.rows.specs.WorkRows.{halfOf}
+use Rattle.rows.specs.Closed.{newest}
+use Rattle.job.specs.declared.Plan.{Plan}
+use Rattle.job_claim.specs.Rows.{fullCrop, mattedByte, resizePlan, resized, resizedFlag}
+
+-- 1, 3, 4, 5 ascending, of n bytes of pixels, m of output and w work values
+unfoldable pub resizeNumber : Dimensions → Dimensions → ℕ → ℕ → ℕ → ℕ
+resizeNumber source target n m w =
+    firstOf (sizesNumber source (fullCrop source) target)
+    (firstOf (refusedIf (not (eqb n (pictureBytes (source .width) (source .height)))) PixelBufferMismatch)
+    (firstOf (refusedIf (not (eqb m (pictureBytes (target .width) (target .height)))) OutputLength)
+    (refusedIf (ltb w (workValues (target .width))) WorkLength)))
+
+-- the value of crop row c at place x of a half, b i being the source's byte i
+unfoldable pub rowValueAt : Plan → (ℕ → ℕ) → ℕ → ℕ → ℕ
+rowValueAt p b x c = value (mattedByte p b (x % lanes) c) (p .crop .width) (p .target .width) (x / lanes)
+
+-- what the last take leaves at place x of the first and of the second half, all h crop rows having come in. Where the height does not grow, nothing is left over
+-- in the first half and the second holds the last row; where it grows, each half holds the row that went there last.
+unfoldable pub lastFirst : Plan → (ℕ → ℕ) → ℕ → ℕ
+lastFirst p b x =
+    let h : ℕ = p .crop .height in
+    cond (leb (p .target .height) h) 0 (newest (rowValueAt p b x) (cond (eqb (h % 2) 0) h (h - 1)))
+
+unfoldable pub lastSecond : Plan → (ℕ → ℕ) → ℕ → ℕ
+lastSecond p b x =
+    let h : ℕ = p .crop .height in
+    cond (leb (p .target .height) h) (newest (rowValueAt p b x) h) (newest (rowValueAt p b x) (cond (eqb (h % 2) 0) (h - 1) h))
+
+-- the work values afterwards: both halves, "the rest is untouched"
+unfoldable pub resizedWork : Dimensions → PixelLayout → Dimensions → List ℕ → List ℕ → List ℕ
+resizedWork source layout target pixels work =
+    let p : Plan = resizePlan source layout target in
+    let b : ℕ → ℕ = λ i. getD pixels i 0 in
+    let w : ℕ = halfValues (target .width) in
+    tabulate (lastFirst p b) w ++ (tabulate (lastSecond p b) w ++ drop (workValues (target .width)) work)

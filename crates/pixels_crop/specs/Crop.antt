@@ -1,0 +1,35 @@
+-- The crop (document 01, "Lanes" and "Beside the job"): the window of a row, the rows of a crop, and the numbers of `crop`. Assumes nothing.
+use Prim.Native.Nat.{ℕ, zero, suc, _+_, _*_}
+use mathlib.Core.Bool.{cond, not}
+use mathlib.Core.List.{List, [], _++_}
+use lib.Dec.{eqb, leb}
+use lib.ListN.{length, take, drop}
+use Rattle.pixels.specs.declared.Dimensions.{Dimensions}
+use Rattle.pixels.specs.declared.Rect.{Rect}
+use Rattle.pixels.specs.declared.Refusal.the-variants.{PixelBufferMismatch, OutputLength}
+use Rattle.pixels.specs.Refusals.{refusedIf, firstOf}
+use Rattle.pixels.specs.Sizes.{rowBytes, pictureBytes, sizesNumber}
+
+-- ---- "the cropped stretch handed back is a part of that same row": w pixels from pixel x on, and the empty part where they do not lie in the row
+unfoldable pub windowOf : List ℕ → ℕ → ℕ → List ℕ
+windowOf row x w = cond (leb (rowBytes (x + w)) (length row)) (take (rowBytes w) (drop (rowBytes x) row)) []
+
+-- row c of a picture w pixels wide
+unfoldable pub pictureRow : List ℕ → ℕ → ℕ → List ℕ
+pictureRow pixels w c = take (rowBytes w) (drop (rowBytes w * c) pixels)
+
+-- ---- "`crop` copies rows": the windows of the crop's first n rows
+unfoldable pub croppedRows : List ℕ → ℕ → Rect → ℕ → List ℕ
+croppedRows pixels w crop zero = []
+croppedRows pixels w crop (suc n) =
+    croppedRows pixels w crop n ++ windowOf (pictureRow pixels w (crop .y + n)) (crop .x) (crop .width)
+
+unfoldable pub cropped : Dimensions → Rect → List ℕ → List ℕ
+cropped source crop pixels = croppedRows pixels (source .width) crop (crop .height)
+
+-- 1 to 4 ascending, of n bytes of pixels and m of output
+unfoldable pub cropNumber : Dimensions → Rect → ℕ → ℕ → ℕ
+cropNumber source crop n m =
+    firstOf (sizesNumber source crop source)
+    (firstOf (refusedIf (not (eqb n (pictureBytes (source .width) (source .height)))) PixelBufferMismatch)
+    (refusedIf (not (eqb m (pictureBytes (crop .width) (crop .height)))) OutputLength))

@@ -1,0 +1,16 @@
+-- `bad_side` meets its contract, which is its two tests. Assumes nothing.
+use Rattle.pixels.specs.Sizes.{badSide}
+use borrow.Author.Tests.{eq-eqb, ne-eqb}
+use Rattle.rows_restoring.proofs.bad_side.Statement.{statement}
+use Rattle.rows_restoring.proofs.bad_side.Tie as tie
+
+returns : tie.Need-returns
+unfolding badSide
+returns c = simp (eq-eqb _ _ (c .if1 .taken))
+
+returns-2 : tie.Need-returns-2
+unfolding badSide
+returns-2 c = simp (ne-eqb _ _ (c .if1 .left))
+
+pub bad-side-spec : {M : Type 1} → statement M
+bad-side-spec = tie.close (tie.spec returns returns-2)

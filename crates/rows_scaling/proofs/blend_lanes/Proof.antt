@@ -1,0 +1,92 @@
+-- `blend_lanes` meets its contract: each turn stores the byte of the two values blended; the factor is below 2^31. Assumes nothing.
+use Rattle.rows_scaling.proofs.Clamps.{MULT-half}
+use Rattle.rows_scaling.proofs.Grows.{Grown, grow-first, grow-turn}
+use Rattle.arithmetic.proofs.Stores.{same, filled}
+use native.Mathlib.Omega.{arith}
+use mathlib.Core.Path.{_≡_}
+use Prim.Native.Nat.{_+_, _-_, _^_}
+use borrow.Author.Needs.{needs}
+use Rattle.rows_scaling.proofs.blend_lanes.Statement.{statement}
+use Rattle.rows_scaling.proofs.blend_lanes.Tie as tie
+
+abbrev Inv-loop : tie.InvT-loop
+Inv-loop newer older w b factor out₀ a k₀ out k = (a + b ≡ 2 ^ 32) × Grown b factor newer older out₀ out w k
+
+abbrev μ-loop : tie.MeasureT-loop
+μ-loop newer older w b factor out₀ a k₀ out k = w - k
+
+sub-a : tie.Need-sub-a Inv-loop μ-loop
+sub-a c = search needs
+
+cast-a : tie.Need-cast-a Inv-loop μ-loop
+cast-a c = search needs
+
+loop-holds : tie.Need-loop-holds Inv-loop μ-loop
+loop-holds c =
+    let b = c .before .before .before in
+    (omega arith, grow-first (b .args .b) (b .args .factor) (b .pre .0))
+
+mul-blended : tie.Need-mul-blended Inv-loop μ-loop
+mul-blended c = search needs
+
+shared-slice-read-blended : tie.Need-shared-slice-read-blended Inv-loop μ-loop
+shared-slice-read-blended c = search needs
+
+mul-blended-2 : tie.Need-mul-blended-2 Inv-loop μ-loop
+mul-blended-2 c = search needs
+
+shared-slice-read-blended-2 : tie.Need-shared-slice-read-blended-2 Inv-loop μ-loop
+shared-slice-read-blended-2 c = search needs
+
+blended-requires : tie.Need-blended-requires Inv-loop μ-loop
+blended-requires c κs = search needs
+
+mult-fix-requires : tie.Need-mult-fix-requires Inv-loop μ-loop
+mult-fix-requires c κs = search needs
+
+byte-of-requires : tie.Need-byte-of-requires Inv-loop μ-loop
+byte-of-requires c κs =
+    rw (c .mult-fix .ensures) (MULT-half (c .before .blended .ok) (c .before .before .before .before .before .before .before .before .before .pre .1 .1))
+
+slice-write-out : tie.Need-slice-write-out Inv-loop μ-loop
+slice-write-out c = omega (arith, same (c .before .before .before .before .before .before .loop .inv .1 .bytes))
+
+add-k : tie.Need-add-k Inv-loop μ-loop
+add-k c = search needs
+
+loop-less : tie.Need-loop-less Inv-loop μ-loop
+loop-less c = search needs
+
+loop-again : tie.Need-loop-again Inv-loop μ-loop
+loop-again c =
+    let b = c .before .before .before .before .before in
+    (b .before .loop .inv .0, grow-turn (b .before .loop .inv .1) (c .before .before .blended .result) (c .before .mult-fix .result) (c .byte-of .result) (b .loop-test .taken) (c .before .before .blended .ensures) (c .before .mult-fix .ensures) (c .byte-of .ensures))
+
+same-length : tie.Need-same-length Inv-loop μ-loop
+same-length c = same (c .before .loop .inv .1 .bytes)
+
+returns : tie.Need-returns Inv-loop μ-loop
+returns c = filled (c .before .loop .inv .1 .bytes) (c .before .before .before .before .before .pre .0 .exact) (c .loop-test .left)
+
+pub blend-lanes-spec : {M : Type 1} → statement M
+blend-lanes-spec =
+    tie.close
+    (tie.spec
+    Inv-loop
+    μ-loop
+    sub-a
+    cast-a
+    loop-holds
+    mul-blended
+    shared-slice-read-blended
+    mul-blended-2
+    shared-slice-read-blended-2
+    blended-requires
+    mult-fix-requires
+    byte-of-requires
+    slice-write-out
+    add-k
+    loop-less
+    loop-again
+    same-length
+    returns)

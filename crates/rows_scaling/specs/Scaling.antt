@@ -1,0 +1,48 @@
+-- An output row is made (document 01, "A row goes out"): when it is refused, and the buffers afterwards. Crop and target are sizes, u crop rows
+-- are used, y is document 01's Y. Assumes nothing.
+use Prim.Native.Nat.{ℕ, suc, _+_, _-_, _*_}
+use mathlib.Core.Bool.{Bool, cond, not, _&&_}
+use mathlib.Core.List.{List}
+use lib.Dec.{eqb, ltb, leb}
+use lib.ListN.{length}
+use Rattle.arithmetic.specs.Table.{tabulate}
+use Rattle.arithmetic.specs.Weight.{span}
+use Rattle.pixels.specs.declared.Dimensions.{Dimensions}
+use Rattle.pixels.specs.declared.Refusal.the-variants.{OutputLength, WorkLength, NoneReady}
+use Rattle.pixels.specs.Refusals.{refusedIf, firstOf, bufferIf}
+use Rattle.pixels.specs.Sizes.{rowBytes, halfValues, workValues, sizeNumber}
+use Rattle.rows.specs.WorkRows.{byteOut, rowLeft}
+
+-- from 0 up to below room, x - from
+abbrev pub within : ℕ → ℕ → ℕ → Bool
+within x from room = leb from x && ltb x (from + room)
+
+-- u crop rows are those of row y: d = u×g - (Y+1)×h is at least 0 and below g, or d = (u-1)×(g-1) - Y×(h-1) is at least 0 and below g - 1
+unfoldable pub due : ℕ → ℕ → ℕ → ℕ → Bool
+due h g u y =
+    cond (leb g h)
+    (within (u * g) (suc y * h) g)
+    (ltb 0 u && within ((u - 1) * (g - 1)) (y * (h - 1)) (g - 1))
+
+-- 1, 4, 5 and 9, ascending; 0 where the row is made
+unfoldable pub scaleNumber : Dimensions → Dimensions → ℕ → ℕ → ℕ → ℕ → ℕ
+scaleNumber crop target u y outBytes workCount =
+    firstOf (sizeNumber crop)
+    (firstOf (sizeNumber target)
+    (firstOf (refusedIf (not (eqb outBytes (rowBytes (target .width)))) OutputLength)
+    (firstOf (refusedIf (ltb workCount (workValues (target .width))) WorkLength)
+    (refusedIf (not (due (crop .height) (target .height) u y)) NoneReady))))
+
+-- the output: the row's lanes B, G, R, A, pixel after pixel, not yet restored
+unfoldable pub scaledOut : Dimensions → Dimensions → ℕ → ℕ → List ℕ → List ℕ → List ℕ
+scaledOut crop target u y out work =
+    bufferIf (scaleNumber crop target u y (length out) (length work))
+    (tabulate (byteOut (span (crop .width) (target .width)) (crop .height) (target .height) (halfValues (target .width)) u y work) (halfValues (target .width)))
+    out
+
+-- the work rows
+unfoldable pub scaledWork : Dimensions → Dimensions → ℕ → ℕ → ℕ → List ℕ → List ℕ
+scaledWork crop target u y outBytes work =
+    bufferIf (scaleNumber crop target u y outBytes (length work))
+    (rowLeft (span (crop .width) (target .width)) (crop .height) (target .height) (halfValues (target .width)) u y work)
+    work
