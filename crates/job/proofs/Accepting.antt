@@ -9,12 +9,12 @@ use native.Mathlib.Nat.{div-add-mod, mul-le-mul-left, le-trans}
 use native.Mathlib.Numerals.{add-one}
 use lib.ListN.{length, take, drop, length-drop}
 use lib.Seq.{length-take-le}
-use Rattle.pixels.specs.Sizes.{rowBytes, workValues}
+use Rattle.pixels.specs.Sizes.{pixelLanes, rowBytes, workValues}
 use Rattle.pixels_crop.specs.Crop.{pictureRow}
 use Rattle.rows_schedule.proofs.Crop.{rows-le}
 use Rattle.job.specs.declared.Plan.{Plan}
 use Rattle.job.specs.declared.Job.{Job}
-use Rattle.job.specs.Record.{R, Rules}
+use Rattle.job.specs.Record.{lanesOf, R, Rules}
 use Rattle.job.specs.Calls.{lentRows, count, rowAccepted, fed, offerNumber}
 use Rattle.job.proofs.Counting.{counted-is}
 use Rattle.job.proofs.Views.{OfferWent, offer-went}
@@ -23,7 +23,7 @@ fed-none : (p : Plan) (rows work : List ℕ) (k : ℕ) → work ≡ fed p rows k
 unfolding fed
 fed-none p rows work k = refl
 
-fed-more : (p : Plan) (rows work : List ℕ) (k i : ℕ) → rowAccepted p (pictureRow rows (p .source .width) i) (k + i) (fed p rows k i work) ≡ fed p rows k (i + 1) work
+fed-more : (p : Plan) (rows work : List ℕ) (k i : ℕ) → rowAccepted p (pictureRow pixelLanes rows (p .source .width) i) (k + i) (fed p rows k i work) ≡ fed p rows k (i + 1) work
 unfolding fed
 fed-more p rows work k i = rw (add-one i) refl
 
@@ -38,7 +38,7 @@ module _ (j : Job) (rows before : List ℕ) (most : ℕ) (goes : offerNumber j (
   o = offer-went j rows before goes
 
   abbrev stride : ℕ
-  stride = rowBytes (j .plan .source .width)
+  stride = rowBytes (lanesOf (j .plan)) (j .plan .source .width)
 
   lent : length rows ≡ stride * lentRows (j .plan) (length rows)
   lent = omega (arith, div-add-mod (length rows) stride, o .whole .whole)
@@ -66,11 +66,11 @@ module _ (j : Job) (rows before : List ℕ) (most : ℕ) (goes : offerNumber j (
         let l : suc i ≤ lentRows (j .plan) (length rows) = omega (arith, a .left) in
         omega (arith, lent, mul-le-mul-left stride l)
 
-    pub row-long : length (pictureRow rows (j .plan .source .width) i) ≡ stride
+    pub row-long : length (pictureRow pixelLanes rows (j .plan .source .width) i) ≡ stride
     unfolding pictureRow
     row-long = length-take-le stride (drop (stride * i) rows) (simp length-drop (omega (arith, in-lent)))
 
-    pub room : workValues (j .plan .target .width) ≤ length work
+    pub room : workValues (lanesOf (j .plan)) (j .plan .target .width) ≤ length work
     room = omega (arith, o .room, a .long)
 
     pub in-range : j .accepted + i < 16384
@@ -94,7 +94,7 @@ module _ (j : Job) (rows before : List ℕ) (most : ℕ) (goes : offerNumber j (
         sym (counted-is (R (j .plan)) (j .accepted) (j .taken) (min (lentRows (j .plan) (length rows)) (j .plan .source .height - j .accepted)) (i + 1) (omega (arith, a .left)) still (inr l))
 
     -- after a row has come in
-    module _ (next row : List ℕ) (row-is : row ≡ pictureRow rows (j .plan .source .width) i) (e : next ≡ rowAccepted (j .plan) row (j .accepted + i) work) where
+    module _ (next row : List ℕ) (row-is : row ≡ pictureRow pixelLanes rows (j .plan .source .width) i) (e : next ≡ rowAccepted (j .plan) row (j .accepted + i) work) where
       next-fed : next ≡ fed (j .plan) rows (j .accepted) (i + 1) before
       next-fed = e ∙ rw (row-is, a .fed-is) (fed-more (j .plan) rows before (j .accepted) i)
 

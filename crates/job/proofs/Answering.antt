@@ -18,7 +18,7 @@ use Rattle.pixels.proofs.Causes.{refused-yes, refused-no, first-passes, first-s
 use Rattle.rows_schedule.proofs.Crop.{rows-most}
 use Rattle.job.specs.declared.Plan.{Plan}
 use Rattle.job.specs.declared.Job.{Job}
-use Rattle.job.specs.Record.{R, fresh, lawful, Rules}
+use Rattle.job.specs.Record.{lanesOf, R, fresh, lawful, Rules}
 use Rattle.job.specs.Calls.{startNumber, startWork, lentRows, offerNumber, offerRows, offerJob, offerWork, count, moreAccepted, fed, takeNumber, takeJob, takeOut, takeWork, moreTaken, rowTaken, workTaken}
 use Rattle.job.proofs.Rules.{rules-of}
 use Rattle.job.proofs.Counting.{counted-most}
@@ -39,16 +39,16 @@ module _ (p : Plan) (work : List ℕ) where
   start-sizes why e = start-away why (first-stops why _ _ e)
 
   module _ (fit : sizesNumber (p .source) (p .crop) (p .target) ≡ 0) where
-    pub start-short : length work < workValues (p .target .width) → (5 ≡ startNumber p (length work)) × ((fresh p ≡ fresh p) × (work ≡ startWork p work))
+    pub start-short : length work < workValues (lanesOf p) (p .target .width) → (5 ≡ startNumber p (length work)) × ((fresh p ≡ fresh p) × (work ≡ startWork p work))
     unfolding startNumber
-    start-short l = start-away WorkLength (first-passes _ _ fit ∙ refused-yes _ WorkLength (lt-ltb (length work) (workValues (p .target .width)) l))
+    start-short l = start-away WorkLength (first-passes _ _ fit ∙ refused-yes _ WorkLength (lt-ltb (length work) (workValues (lanesOf p) (p .target .width)) l))
 
-    pub start-goes : (n : ℕ) (next : List ℕ) → n ≡ workValues (p .target .width) → n ≤ length work → next ≡ replicate n 0 ++ drop n work
+    pub start-goes : (n : ℕ) (next : List ℕ) → n ≡ workValues (lanesOf p) (p .target .width) → n ≤ length work → next ≡ replicate n 0 ++ drop n work
         → (0 ≡ startNumber p (length work)) × ((fresh p ≡ fresh p) × (next ≡ startWork p work))
     unfolding startNumber startWork
     start-goes n next en l e =
-        let room : workValues (p .target .width) ≤ length work = omega arith in
-        let z = first-passes _ _ fit ∙ refused-no _ WorkLength (le-ltb (length work) (workValues (p .target .width)) room) in
+        let room : workValues (lanesOf p) (p .target .width) ≤ length work = omega arith in
+        let z = first-passes _ _ fit ∙ refused-no _ WorkLength (le-ltb (length work) (workValues (lanesOf p) (p .target .width)) room) in
         (sym z, (refl, e ∙ rw en (simp (eq-eqb _ 0 z))))
 
 -- ---- offer: 6, 3, 5, 7, 8
@@ -74,24 +74,24 @@ module _ (j : Job) (rows work : List ℕ) where
     offer-empty l = offer-away PixelBufferMismatch (let q : offerNumber j (length rows) (length work) ≡ number PixelBufferMismatch = simp (a, eq-eqb (length rows) 0 l) in q)
 
     module _ (l : length rows ≡ 0 → ⊥) where
-      pub offer-ragged : (length rows % rowBytes (j .plan .source .width) ≡ 0 → ⊥) → Turned 3
+      pub offer-ragged : (length rows % rowBytes (lanesOf (j .plan)) (j .plan .source .width) ≡ 0 → ⊥) → Turned 3
       unfolding offerNumber
       offer-ragged m =
           offer-away PixelBufferMismatch
-          (let q : offerNumber j (length rows) (length work) ≡ number PixelBufferMismatch = simp (a, ne-eqb (length rows) 0 l, ne-eqb (length rows % rowBytes (j .plan .source .width)) 0 m) in q)
+          (let q : offerNumber j (length rows) (length work) ≡ number PixelBufferMismatch = simp (a, ne-eqb (length rows) 0 l, ne-eqb (length rows % rowBytes (lanesOf (j .plan)) (j .plan .source .width)) 0 m) in q)
 
-      module _ (m : length rows % rowBytes (j .plan .source .width) ≡ 0) where
+      module _ (m : length rows % rowBytes (lanesOf (j .plan)) (j .plan .source .width) ≡ 0) where
         pub whole : WholeRows (j .plan) (length rows)
         whole = record { some = omega (arith, l); whole = m }
 
-        pub offer-short : length work < workValues (j .plan .target .width) → Turned 5
+        pub offer-short : length work < workValues (lanesOf (j .plan)) (j .plan .target .width) → Turned 5
         unfolding offerNumber
         offer-short b =
             offer-away WorkLength
             (let q : offerNumber j (length rows) (length work) ≡ number WorkLength =
-            simp (a, ne-eqb (length rows) 0 l, eq-eqb (length rows % rowBytes (j .plan .source .width)) 0 m, lt-ltb (length work) (workValues (j .plan .target .width)) b) in q)
+            simp (a, ne-eqb (length rows) 0 l, eq-eqb (length rows % rowBytes (lanesOf (j .plan)) (j .plan .source .width)) 0 m, lt-ltb (length work) (workValues (lanesOf (j .plan)) (j .plan .target .width)) b) in q)
 
-        module _ (b : workValues (j .plan .target .width) ≤ length work) (x : ℕ) (r : x ≡ R (j .plan) (j .accepted)) where
+        module _ (b : workValues (lanesOf (j .plan)) (j .plan .target .width) ≤ length work) (x : ℕ) (r : x ≡ R (j .plan) (j .accepted)) where
           pub offer-row-ready : j .taken < x → Turned 7
           offer-row-ready d = offer-away RowReady (offer-ready j (length rows) (length work) (rules-of j a) whole b (rw (← r) d))
 
@@ -127,19 +127,19 @@ module _ (j : Job) (out work : List ℕ) where
   take-unlawful a = take-away InvalidRecord (let q : takeNumber j (length out) (length work) ≡ number InvalidRecord = simp a in q)
 
   module _ (a : lawful j ≡ true) where
-    pub take-length : (length out ≡ rowBytes (j .plan .target .width) → ⊥) → Untaken 4
+    pub take-length : (length out ≡ rowBytes (lanesOf (j .plan)) (j .plan .target .width) → ⊥) → Untaken 4
     unfolding takeNumber
-    take-length l = take-away OutputLength (let q : takeNumber j (length out) (length work) ≡ number OutputLength = simp (a, ne-eqb (length out) (rowBytes (j .plan .target .width)) l) in q)
+    take-length l = take-away OutputLength (let q : takeNumber j (length out) (length work) ≡ number OutputLength = simp (a, ne-eqb (length out) (rowBytes (lanesOf (j .plan)) (j .plan .target .width)) l) in q)
 
-    module _ (l : length out ≡ rowBytes (j .plan .target .width)) where
-      pub take-short : length work < workValues (j .plan .target .width) → Untaken 5
+    module _ (l : length out ≡ rowBytes (lanesOf (j .plan)) (j .plan .target .width)) where
+      pub take-short : length work < workValues (lanesOf (j .plan)) (j .plan .target .width) → Untaken 5
       unfolding takeNumber
       take-short b =
           take-away WorkLength
           (let q : takeNumber j (length out) (length work) ≡ number WorkLength =
-          simp (a, eq-eqb (length out) (rowBytes (j .plan .target .width)) l, lt-ltb (length work) (workValues (j .plan .target .width)) b) in q)
+          simp (a, eq-eqb (length out) (rowBytes (lanesOf (j .plan)) (j .plan .target .width)) l, lt-ltb (length work) (workValues (lanesOf (j .plan)) (j .plan .target .width)) b) in q)
 
-      module _ (b : workValues (j .plan .target .width) ≤ length work) (x : ℕ) (r : x ≡ R (j .plan) (j .accepted)) where
+      module _ (b : workValues (lanesOf (j .plan)) (j .plan .target .width) ≤ length work) (x : ℕ) (r : x ≡ R (j .plan) (j .accepted)) where
         pub take-unready : x ≤ j .taken → Untaken 9
         take-unready d = take-away NoneReady (take-none j (length out) (length work) (rules-of j a) l b (rw (← r) d))
 

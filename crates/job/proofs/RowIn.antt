@@ -12,7 +12,7 @@ use lib.Seq.{take-all}
 use borrow.Author.Tests.{le-leb, lt-leb, lt-ltb, le-ltb, eq-eqb}
 use Rattle.arithmetic.proofs.Tables.{length-tabulate}
 use Rattle.pixels.specs.Refusals.{bufferIf}
-use Rattle.pixels.specs.Sizes.{rowBytes, halfValues, workValues, Fits}
+use Rattle.pixels.specs.Sizes.{pixelLanes, rowBytes, halfValues, workValues, Fits}
 use Rattle.pixels.specs.Lanes.{matted}
 use Rattle.pixels_crop.specs.Crop.{windowOf}
 use Rattle.pixels.proofs.Causes.{test}
@@ -26,6 +26,7 @@ use Rattle.rows.proofs.Incoming.{import-passes}
 use Rattle.rows_adding.proofs.Adding.{add-passes}
 use Rattle.job.specs.declared.Plan.{Plan}
 use Rattle.job.specs.Calls.{valuesOf, rowAccepted}
+use Rattle.job.specs.Record.{lanesOf}
 
 -- ---- a part `&mut xs[a..]` that is lent and comes back
 module _ (xs : List ℕ) (a : ℕ) where
@@ -51,66 +52,66 @@ module _ (p : Plan) (row : List ℕ) (s : ℕ) (work : List ℕ) where
 
     -- ---- inside it
     module _ (b : s - p .crop .y < p .crop .height) where
-      row-inside : rowAccepted p row s work ≡ rowIn (p .crop .height) (p .target .height) (halfValues (p .target .width)) (s - p .crop .y) (valuesOf p row) work
+      row-inside : rowAccepted p row s work ≡ rowIn (p .crop .height) (p .target .height) (halfValues (lanesOf p) (p .target .width)) (s - p .crop .y) (valuesOf p row) work
       unfolding rowAccepted
       row-inside = simp (le-leb (p .crop .y) s a, lt-ltb s (p .crop .y + p .crop .height) (omega arith))
 
-      module _ (fits : Fits (p .source) (p .crop) (p .target)) (long : length row ≡ rowBytes (p .source .width)) (room : workValues (p .target .width) ≤ length work) (at : ℕ) (at-is : at ≡ cond (leb (p .target .height) (p .crop .height)) (halfValues (p .target .width)) (halfOf (halfValues (p .target .width)) (s - p .crop .y))) where
+      module _ (fits : Fits (p .source) (p .crop) (p .target)) (long : length row ≡ rowBytes (lanesOf p) (p .source .width)) (room : workValues (lanesOf p) (p .target .width) ≤ length work) (at : ℕ) (at-is : at ≡ cond (leb (p .target .height) (p .crop .height)) (halfValues (lanesOf p) (p .target .width)) (halfOf (halfValues (lanesOf p) (p .target .width)) (s - p .crop .y))) where
         -- there is room for a half behind its place
-        pub at-low : at + halfValues (p .target .width) ≤ length work
+        pub at-low : at + halfValues (lanesOf p) (p .target .width) ≤ length work
         at-low = by (test (leb (p .target .height) (p .crop .height))) (test (eqb ((s - p .crop .y) % 2) 0))
           where
             by : (leb (p .target .height) (p .crop .height) ≡ true) ⊎ (leb (p .target .height) (p .crop .height) ≡ false)
-                → (eqb ((s - p .crop .y) % 2) 0 ≡ true) ⊎ (eqb ((s - p .crop .y) % 2) 0 ≡ false) → at + halfValues (p .target .width) ≤ length work
-            by (inl e) f = let q : at ≡ halfValues (p .target .width) = rw e at at-is in omega arith
-            by (inr e) (inl f) = let q : at ≡ halfValues (p .target .width) = rw (e, f) at at-is in omega arith
+                → (eqb ((s - p .crop .y) % 2) 0 ≡ true) ⊎ (eqb ((s - p .crop .y) % 2) 0 ≡ false) → at + halfValues (lanesOf p) (p .target .width) ≤ length work
+            by (inl e) f = let q : at ≡ halfValues (lanesOf p) (p .target .width) = rw e at at-is in omega arith
+            by (inr e) (inl f) = let q : at ≡ halfValues (lanesOf p) (p .target .width) = rw (e, f) at at-is in omega arith
             by (inr e) (inr f) = let q : at ≡ 0 = rw (e, f) at at-is in omega arith
 
         -- the row's window goes to its half
-        module _ (part half next : List ℕ) (part-is : part ≡ windowOf row (p .crop .x) (p .crop .width)) (half-is : half ≡ drop at work)
-            (imported : next ≡ bufferIf (importNumber (p .crop .width) (p .target .width) (length part) (length half)) (written (halfValues (p .target .width)) (rowValue (matted (p .layout) part) (p .crop .width) (p .target .width)) half) half) where
+        module _ (part half next : List ℕ) (part-is : part ≡ windowOf pixelLanes row (p .crop .x) (p .crop .width)) (half-is : half ≡ drop at work)
+            (imported : next ≡ bufferIf (importNumber (p .crop .width) (p .target .width) (length part) (length half)) (written (halfValues (lanesOf p) (p .target .width)) (rowValue pixelLanes (matted (p .layout) part) (p .crop .width) (p .target .width)) half) half) where
           goes : importNumber (p .crop .width) (p .target .width) (length part) (length half) ≡ 0
           goes =
-              let inside : rowBytes (p .crop .x + p .crop .width) ≤ length row = omega (arith, fits .right) in
+              let inside : rowBytes pixelLanes (p .crop .x + p .crop .width) ≤ length row = omega (arith, fits .right) in
               import-passes (p .crop .width) (p .target .width) (length part) (length half)
               (side-good (p .crop .width) (record { some = fits .crop-width; most = omega (arith, fits .right, fits .source-width .most) }))
               (side-good (p .target .width) (fits .target-width))
-              (ap length part-is ∙ window-length row (p .crop .x) (p .crop .width) inside)
+              (ap length part-is ∙ window-length (lanesOf p) row (p .crop .x) (p .crop .width) inside)
               (rw half-is (simp length-drop (omega (arith, at-low))))
 
-          half-written : next ≡ written (halfValues (p .target .width)) (valuesOf p row) (drop at work)
+          half-written : next ≡ written (halfValues (lanesOf p) (p .target .width)) (valuesOf p row) (drop at work)
           half-written =
-              imported ∙ (let e : bufferIf (importNumber (p .crop .width) (p .target .width) (length part) (length half)) (written (halfValues (p .target .width)) (rowValue (matted (p .layout) part) (p .crop .width) (p .target .width)) half) half ≡ written (halfValues (p .target .width)) (rowValue (matted (p .layout) part) (p .crop .width) (p .target .width)) half = simp (eq-eqb _ 0 goes) in e)
+              imported ∙ (let e : bufferIf (importNumber (p .crop .width) (p .target .width) (length part) (length half)) (written (halfValues (lanesOf p) (p .target .width)) (rowValue pixelLanes (matted (p .layout) part) (p .crop .width) (p .target .width)) half) half ≡ written (halfValues (lanesOf p) (p .target .width)) (rowValue pixelLanes (matted (p .layout) part) (p .crop .width) (p .target .width)) half = simp (eq-eqb _ 0 goes) in e)
               ∙ rw (part-is, half-is)
 
         -- the work rows with that part put back
-        pub row-next : (part ys : List ℕ) → part ≡ windowOf row (p .crop .x) (p .crop .width)
-            → ys ≡ bufferIf (importNumber (p .crop .width) (p .target .width) (length part) (length (take (length work - at) (drop at work)))) (written (halfValues (p .target .width)) (rowValue (matted (p .layout) part) (p .crop .width) (p .target .width)) (take (length work - at) (drop at work))) (take (length work - at) (drop at work))
-            → take at work ++ (ys ++ drop (length work - at) (drop at work)) ≡ take at work ++ written (halfValues (p .target .width)) (valuesOf p row) (drop at work)
+        pub row-next : (part ys : List ℕ) → part ≡ windowOf pixelLanes row (p .crop .x) (p .crop .width)
+            → ys ≡ bufferIf (importNumber (p .crop .width) (p .target .width) (length part) (length (take (length work - at) (drop at work)))) (written (halfValues (lanesOf p) (p .target .width)) (rowValue pixelLanes (matted (p .layout) part) (p .crop .width) (p .target .width)) (take (length work - at) (drop at work))) (take (length work - at) (drop at work))
+            → take at work ++ (ys ++ drop (length work - at) (drop at work)) ≡ take at work ++ written (halfValues (lanesOf p) (p .target .width)) (valuesOf p row) (drop at work)
         row-next part ys part-is imported =
             back work at ys ∙ ap (λ (z : List ℕ). take at work ++ z) (half-written part (take (length work - at) (drop at work)) ys part-is (lent work at) imported)
 
-        module _ (next : List ℕ) (next-is : next ≡ take at work ++ written (halfValues (p .target .width)) (valuesOf p row) (drop at work)) where
+        module _ (next : List ℕ) (next-is : next ≡ take at work ++ written (halfValues (lanesOf p) (p .target .width)) (valuesOf p row) (drop at work)) where
           -- the height grows: the other half is the older row
           pub row-grows : p .crop .height < p .target .height → next ≡ rowAccepted p row s work
           unfolding rowIn
           row-grows l = next-is ∙ by (lt-leb (p .target .height) (p .crop .height) l) (test (eqb ((s - p .crop .y) % 2) 0)) ∙ sym row-inside
             where
               by : leb (p .target .height) (p .crop .height) ≡ false → (eqb ((s - p .crop .y) % 2) 0 ≡ true) ⊎ (eqb ((s - p .crop .y) % 2) 0 ≡ false)
-                  → take at work ++ written (halfValues (p .target .width)) (valuesOf p row) (drop at work) ≡ rowIn (p .crop .height) (p .target .height) (halfValues (p .target .width)) (s - p .crop .y) (valuesOf p row) work
-              by e (inl f) = let q : at ≡ halfValues (p .target .width) = rw (e, f) at at-is in rw q (simp (e, f))
+                  → take at work ++ written (halfValues (lanesOf p) (p .target .width)) (valuesOf p row) (drop at work) ≡ rowIn (p .crop .height) (p .target .height) (halfValues (lanesOf p) (p .target .width)) (s - p .crop .y) (valuesOf p row) work
+              by e (inl f) = let q : at ≡ halfValues (lanesOf p) (p .target .width) = rw (e, f) at at-is in rw q (simp (e, f))
               by e (inr f) = let q : at ≡ 0 = rw (e, f) at at-is in rw q (simp (e, f))
 
           -- the height does not grow: the second half is added to the first
           pub row-adds : p .target .height ≤ p .crop .height → (last : List ℕ)
-              → last ≡ bufferIf (addNumber (p .target .width) (length next)) (added (halfValues (p .target .width)) next) next → last ≡ rowAccepted p row s work
+              → last ≡ bufferIf (addNumber (p .target .width) (length next)) (added (halfValues (lanesOf p) (p .target .width)) next) next → last ≡ rowAccepted p row s work
           unfolding rowIn
           row-adds l last e =
               let same : length next ≡ length work = ap length next-is ∙ simp (length-append, length-take, length-tabulate, length-drop) (omega (arith, at-low)) in
               let f = le-leb (p .target .height) (p .crop .height) l in
-              let q : at ≡ halfValues (p .target .width) = rw f at at-is in
+              let q : at ≡ halfValues (lanesOf p) (p .target .width) = rw f at at-is in
               let z = add-passes (p .target .width) (length next) (side-good (p .target .width) (fits .target-width)) (omega arith) in
-              let d : bufferIf (addNumber (p .target .width) (length next)) (added (halfValues (p .target .width)) next) next ≡ added (halfValues (p .target .width)) next = simp (eq-eqb _ 0 z) in
-              e ∙ d ∙ ap (added (halfValues (p .target .width))) (next-is ∙ ap (λ (x : ℕ). take x work ++ written (halfValues (p .target .width)) (valuesOf p row) (drop x work)) q)
-              ∙ (let g : added (halfValues (p .target .width)) (take (halfValues (p .target .width)) work ++ written (halfValues (p .target .width)) (valuesOf p row) (drop (halfValues (p .target .width)) work)) ≡ rowIn (p .crop .height) (p .target .height) (halfValues (p .target .width)) (s - p .crop .y) (valuesOf p row) work = simp f in g)
+              let d : bufferIf (addNumber (p .target .width) (length next)) (added (halfValues (lanesOf p) (p .target .width)) next) next ≡ added (halfValues (lanesOf p) (p .target .width)) next = simp (eq-eqb _ 0 z) in
+              e ∙ d ∙ ap (added (halfValues (lanesOf p) (p .target .width))) (next-is ∙ ap (λ (x : ℕ). take x work ++ written (halfValues (lanesOf p) (p .target .width)) (valuesOf p row) (drop x work)) q)
+              ∙ (let g : added (halfValues (lanesOf p) (p .target .width)) (take (halfValues (lanesOf p) (p .target .width)) work ++ written (halfValues (lanesOf p) (p .target .width)) (valuesOf p row) (drop (halfValues (lanesOf p) (p .target .width)) work)) ≡ rowIn (p .crop .height) (p .target .height) (halfValues (lanesOf p) (p .target .width)) (s - p .crop .y) (valuesOf p row) work = simp f in g)
               ∙ sym row-inside

@@ -27,14 +27,15 @@ use Rattle.job.specs.declared.Job.{Job}
 use Rattle.job.specs.Calls.{usedBy, rowTaken, workTaken, takeNumber}
 use Rattle.job.proofs.Restoring.{restored-cong}
 use Rattle.job.proofs.Views.{TakeWent, take-went}
+use Rattle.job.specs.Record.{lanesOf}
 
 abbrev cropSize : Plan → Dimensions
 cropSize p = sizeOf (p .crop .width) (p .crop .height)
 
 -- the lanes of the row that goes out
-abbrev lanesOf : Job → List ℕ → ℕ → ℕ
-lanesOf j work =
-    byteOut (span (j .plan .crop .width) (j .plan .target .width)) (j .plan .crop .height) (j .plan .target .height) (halfValues (j .plan .target .width)) (usedBy j) (j .taken) work
+abbrev outOf : Job → List ℕ → ℕ → ℕ
+outOf j work =
+    byteOut (span (j .plan .crop .width) (j .plan .target .width)) (j .plan .crop .height) (j .plan .target .height) (halfValues (lanesOf (j .plan)) (j .plan .target .width)) (usedBy j) (j .taken) work
 
 module _ (j : Job) (out work : List ℕ) (goes : takeNumber j (length out) (length work) ≡ 0) where
   abbrev w : TakeWent j out work
@@ -72,7 +73,7 @@ module _ (j : Job) (out work : List ℕ) (goes : takeNumber j (length out) (leng
     work-is next e = e ∙ rw u-is (simp (eq-eqb _ 0 scale-goes))
 
     lanes-are : (row : List ℕ) → row ≡ scaledOut (cropSize (j .plan)) (j .plan .target) u (j .taken) out work
-        → row ≡ tabulate (lanesOf j work) (halfValues (j .plan .target .width))
+        → row ≡ tabulate (outOf j work) (halfValues (lanesOf (j .plan)) (j .plan .target .width))
     unfolding scaledOut
     lanes-are row e = e ∙ rw u-is (simp (eq-eqb _ 0 scale-goes))
 
@@ -81,15 +82,15 @@ module _ (j : Job) (out work : List ℕ) (goes : takeNumber j (length out) (leng
       restore-goes : restoreNumber (j .plan .target .width) (length row) ≡ 0
       restore-goes =
           restore-passes (j .plan .target .width) (length row) (side-good (j .plan .target .width) (w .rules .sizes .target-width))
-          (ap length (lanes-are row row-is) ∙ length-tabulate (lanesOf j work) (halfValues (j .plan .target .width)))
+          (ap length (lanes-are row row-is) ∙ length-tabulate (outOf j work) (halfValues (lanesOf (j .plan)) (j .plan .target .width)))
 
       packed-is : restoredRow (j .plan .layout) (j .plan .target .width) row ≡ rowTaken j work
       unfolding restoredRow rowTaken
       packed-is =
-          tabulate-cong _ _ (rowBytes (j .plan .target .width))
+          tabulate-cong _ _ (rowBytes (lanesOf (j .plan)) (j .plan .target .width))
           (λ z l.
-          restored-cong (j .plan .layout) (λ x. getD row x 0) (lanesOf j work) (j .plan .target .width) z l
-          (λ x k. ap (λ (s : List ℕ). getD s x 0) (lanes-are row row-is) ∙ getD-tabulate (lanesOf j work) (halfValues (j .plan .target .width)) x k))
+          restored-cong (j .plan .layout) (λ x. getD row x 0) (outOf j work) (j .plan .target .width) z l
+          (λ x k. ap (λ (s : List ℕ). getD s x 0) (lanes-are row row-is) ∙ getD-tabulate (outOf j work) (halfValues (lanesOf (j .plan)) (j .plan .target .width)) x k))
 
       pub row-out : (last : List ℕ) → last ≡ restoredOut (j .plan .layout) (j .plan .target .width) row → last ≡ rowTaken j work
       unfolding restoredOut

@@ -16,14 +16,14 @@ use Rattle.pixels.proofs.Fitting.{fits-of, fits-good}
 use Rattle.pixels.proofs.Causes.{test, neither-true, not-false, refused-yes, refused-no, refused-zero, first-zero, first-passes, first-stops}
 use Rattle.job.specs.declared.Plan.{Plan}
 use Rattle.job.specs.declared.Job.{Job}
-use Rattle.job.specs.Record.{R, lawful, Rules}
+use Rattle.job.specs.Record.{lanesOf, R, lawful, Rules}
 use Rattle.job.specs.Calls.{shortWork, startNumber, startWork, cleared, badRows, offerNumber, offerRows, offerJob, offerWork, count, moreAccepted, fed, takeNumber, takeJob, takeOut, takeWork, moreTaken, rowTaken, workTaken}
 use Rattle.job.proofs.Rules.{rules-of, rules-good}
 
 -- ---- lengths that are right
 pub record WholeRows (p : Plan) (n : ℕ) : Type 0 where
   pub some : 0 < n
-  pub whole : n % rowBytes (p .source .width) ≡ 0
+  pub whole : n % rowBytes (lanesOf p) (p .source .width) ≡ 0
 
 pub whole-of : (p : Plan) (n : ℕ) → badRows p n ≡ false → WholeRows p n
 whole-of p n e =
@@ -31,13 +31,13 @@ whole-of p n e =
     record { some = omega (arith, eqb-false n 0 (q .0)); whole = eqb-true _ 0 (not-false _ (q .1)) }
 
 pub whole-good : (p : Plan) (n : ℕ) → WholeRows p n → badRows p n ≡ false
-whole-good p n w = simp (ne-eqb n 0 (λ e. omega (arith, w .some)), eq-eqb (n % rowBytes (p .source .width)) 0 (w .whole))
+whole-good p n w = simp (ne-eqb n 0 (λ e. omega (arith, w .some)), eq-eqb (n % rowBytes (lanesOf p) (p .source .width)) 0 (w .whole))
 
-room-of : (p : Plan) (w : ℕ) → shortWork p w ≡ 0 → workValues (p .target .width) ≤ w
+room-of : (p : Plan) (w : ℕ) → shortWork p w ≡ 0 → workValues (lanesOf p) (p .target .width) ≤ w
 room-of p w e = ltb-false w _ (refused-zero _ WorkLength e)
 
-room-good : (p : Plan) (w : ℕ) → workValues (p .target .width) ≤ w → shortWork p w ≡ 0
-room-good p w h = refused-no _ WorkLength (le-ltb w (workValues (p .target .width)) h)
+room-good : (p : Plan) (w : ℕ) → workValues (lanesOf p) (p .target .width) ≤ w → shortWork p w ≡ 0
+room-good p w h = refused-no _ WorkLength (le-ltb w (workValues (lanesOf p) (p .target .width)) h)
 
 lawful-of : (j : Job) → refusedIf (not (lawful j)) InvalidRecord ≡ 0 → Rules j
 lawful-of j e = rules-of j (not-false _ (refused-zero _ InvalidRecord e))
@@ -48,7 +48,7 @@ lawful-good j r = simp (rules-good j r)
 -- ---- start
 pub record StartWent (p : Plan) (work : List ℕ) : Type 0 where
   pub sizes : Fits (p .source) (p .crop) (p .target)
-  pub room : workValues (p .target .width) ≤ length work
+  pub room : workValues (lanesOf p) (p .target .width) ≤ length work
   pub work-after : startWork p work ≡ cleared p work
 
 pub start-went : (p : Plan) (work : List ℕ) → startNumber p (length work) ≡ 0 → StartWent p work
@@ -70,7 +70,7 @@ pub record OfferTurned (j : Job) (rows work : List ℕ) : Type 0 where
 pub record OfferWent (j : Job) (rows work : List ℕ) : Type 0 where
   pub rules : Rules j
   pub whole : WholeRows (j .plan) (length rows)
-  pub room : workValues (j .plan .target .width) ≤ length work
+  pub room : workValues (lanesOf (j .plan)) (j .plan .target .width) ≤ length work
   pub none-ready : R (j .plan) (j .accepted) ≤ j .taken
   pub remain : j .accepted < j .plan .source .height
   pub goes : offerNumber j (length rows) (length work) ≡ 0
@@ -109,7 +109,7 @@ offer-view j rows work = by (test (eqb (offerNumber j (length rows) (length work
     by (inr e) = inl (offer-turned j rows work e)
 
 -- with buffers of the right length
-module _ (j : Job) (n w : ℕ) (rules : Rules j) (whole : WholeRows (j .plan) n) (room : workValues (j .plan .target .width) ≤ w) where
+module _ (j : Job) (n w : ℕ) (rules : Rules j) (whole : WholeRows (j .plan) n) (room : workValues (lanesOf (j .plan)) (j .plan .target .width) ≤ w) where
   past : {b : ℕ} → firstOf (refusedIf (not (lawful j)) InvalidRecord) (firstOf (refusedIf (badRows (j .plan) n) PixelBufferMismatch) (firstOf (shortWork (j .plan) w) b)) ≡ b
   past =
       first-passes _ _ (lawful-good j rules) ∙ first-passes _ _ (refused-no _ PixelBufferMismatch (whole-good (j .plan) n whole))
@@ -140,8 +140,8 @@ pub record TakeTurned (j : Job) (out work : List ℕ) : Type 0 where
 
 pub record TakeWent (j : Job) (out work : List ℕ) : Type 0 where
   pub rules : Rules j
-  pub exact : length out ≡ rowBytes (j .plan .target .width)
-  pub room : workValues (j .plan .target .width) ≤ length work
+  pub exact : length out ≡ rowBytes (lanesOf (j .plan)) (j .plan .target .width)
+  pub room : workValues (lanesOf (j .plan)) (j .plan .target .width) ≤ length work
   pub ready : j .taken < R (j .plan) (j .accepted)
   pub goes : takeNumber j (length out) (length work) ≡ 0
   pub next : takeJob j (length out) work ≡ moreTaken j (rowTaken j work)
@@ -152,7 +152,7 @@ pub take-went : (j : Job) (out work : List ℕ) → takeNumber j (length out) (l
 unfolding takeNumber takeJob takeWork takeOut
 take-went j out work e =
     let a = first-zero (refusedIf (not (lawful j)) InvalidRecord) _ e in
-    let b = first-zero (refusedIf (not (eqb (length out) (rowBytes (j .plan .target .width)))) OutputLength) _ (a .1) in
+    let b = first-zero (refusedIf (not (eqb (length out) (rowBytes (lanesOf (j .plan)) (j .plan .target .width)))) OutputLength) _ (a .1) in
     let c = first-zero (shortWork (j .plan) (length work)) _ (b .1) in
     record {
       rules = lawful-of j (a .0);
@@ -176,10 +176,10 @@ take-view j out work = by (test (eqb (takeNumber j (length out) (length work)) 0
     by (inl e) = inr (take-went j out work (eqb-true _ 0 e))
     by (inr e) = inl (take-turned j out work e)
 
-module _ (j : Job) (n w : ℕ) (rules : Rules j) (exact : n ≡ rowBytes (j .plan .target .width)) (room : workValues (j .plan .target .width) ≤ w) where
-  past-take : {b : ℕ} → firstOf (refusedIf (not (lawful j)) InvalidRecord) (firstOf (refusedIf (not (eqb n (rowBytes (j .plan .target .width)))) OutputLength) (firstOf (shortWork (j .plan) w) b)) ≡ b
+module _ (j : Job) (n w : ℕ) (rules : Rules j) (exact : n ≡ rowBytes (lanesOf (j .plan)) (j .plan .target .width)) (room : workValues (lanesOf (j .plan)) (j .plan .target .width) ≤ w) where
+  past-take : {b : ℕ} → firstOf (refusedIf (not (lawful j)) InvalidRecord) (firstOf (refusedIf (not (eqb n (rowBytes (lanesOf (j .plan)) (j .plan .target .width)))) OutputLength) (firstOf (shortWork (j .plan) w) b)) ≡ b
   past-take =
-      first-passes _ _ (lawful-good j rules) ∙ first-passes _ _ (let q : refusedIf (not (eqb n (rowBytes (j .plan .target .width)))) OutputLength ≡ 0 = simp (eq-eqb n (rowBytes (j .plan .target .width)) exact) in q)
+      first-passes _ _ (lawful-good j rules) ∙ first-passes _ _ (let q : refusedIf (not (eqb n (rowBytes (lanesOf (j .plan)) (j .plan .target .width)))) OutputLength ≡ 0 = simp (eq-eqb n (rowBytes (lanesOf (j .plan)) (j .plan .target .width)) exact) in q)
       ∙ first-passes _ _ (room-good (j .plan) w room)
 
   pub take-goes : j .taken < R (j .plan) (j .accepted) → takeNumber j n w ≡ 0

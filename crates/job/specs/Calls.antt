@@ -20,11 +20,11 @@ use Rattle.rows.specs.Lanes.{rowValue}
 use Rattle.rows.specs.WorkRows.{rowIn, byteOut, rowLeft}
 use Rattle.job.specs.declared.Plan.{Plan}
 use Rattle.job.specs.declared.Job.{Job}
-use Rattle.job.specs.Record.{R, fresh, lawful}
+use Rattle.job.specs.Record.{lanesOf, R, fresh, lawful}
 
 -- "fewer than 8 × target width work values", w being lent
 abbrev pub shortWork : Plan → ℕ → ℕ
-shortWork p w = refusedIf (ltb w (workValues (p .target .width))) WorkLength
+shortWork p w = refusedIf (ltb w (workValues (lanesOf p) (p .target .width))) WorkLength
 
 -- ---- start: 1, 2, 5
 
@@ -33,7 +33,7 @@ startNumber p w = firstOf (sizesNumber (p .source) (p .crop) (p .target)) (short
 
 -- "start clears both, and the rest is untouched"
 abbrev pub cleared : Plan → List ℕ → List ℕ
-cleared p work = replicate (workValues (p .target .width)) 0 ++ drop (workValues (p .target .width)) work
+cleared p work = replicate (workValues (lanesOf p) (p .target .width)) 0 ++ drop (workValues (lanesOf p) (p .target .width)) work
 
 unfoldable pub startWork : Plan → List ℕ → List ℕ
 startWork p work = cond (eqb (startNumber p (length work)) 0) (cleared p work) work
@@ -46,25 +46,26 @@ inCrop p s = leb (p .crop .y) s && ltb s (p .crop .y + p .crop .height)
 
 -- the values of a source row: its crop window, matted, each lane alone
 abbrev pub valuesOf : Plan → List ℕ → ℕ → ℕ
-valuesOf p row = rowValue (matted (p .layout) (windowOf row (p .crop .x) (p .crop .width))) (p .crop .width) (p .target .width)
+valuesOf p row =
+    rowValue (lanesOf p) (matted (p .layout) (windowOf (lanesOf p) row (p .crop .x) (p .crop .width))) (p .crop .width) (p .target .width)
 
 -- source row s, its bytes being row: "Rows outside the crop count and touch no work value"
 unfoldable pub rowAccepted : Plan → List ℕ → ℕ → List ℕ → List ℕ
 rowAccepted p row s work =
     cond (inCrop p s)
-    (rowIn (p .crop .height) (p .target .height) (halfValues (p .target .width)) (s - p .crop .y) (valuesOf p row) work)
+    (rowIn (p .crop .height) (p .target .height) (halfValues (lanesOf p) (p .target .width)) (s - p .crop .y) (valuesOf p row) work)
     work
 
 -- the first c of the rows lent, the first of them being source row k
 unfoldable pub fed : Plan → List ℕ → ℕ → ℕ → List ℕ → List ℕ
 fed p rows k zero work = work
-fed p rows k (suc c) work = rowAccepted p (pictureRow rows (p .source .width) c) (k + c) (fed p rows k c work)
+fed p rows k (suc c) work = rowAccepted p (pictureRow (lanesOf p) rows (p .source .width) c) (k + c) (fed p rows k c work)
 
 -- ---- offer: 6, 3, 5, 7, 8
 
 -- "offered bytes empty or no whole number of source rows"
 abbrev pub badRows : Plan → ℕ → Bool
-badRows p n = eqb n 0 || not (eqb (n % rowBytes (p .source .width)) 0)
+badRows p n = eqb n 0 || not (eqb (n % rowBytes (lanesOf p) (p .source .width)) 0)
 
 -- of n bytes lent and w work values
 unfoldable pub offerNumber : Job → ℕ → ℕ → ℕ
@@ -82,7 +83,7 @@ counted r k t zero = 0
 counted r k t (suc n) = cond (ltb t (r (k + counted r k t n))) (counted r k t n) (suc (counted r k t n))
 
 abbrev pub lentRows : Plan → ℕ → ℕ
-lentRows p n = n / rowBytes (p .source .width)
+lentRows p n = n / rowBytes (lanesOf p) (p .source .width)
 
 abbrev pub count : Job → ℕ → ℕ
 count j n = counted (R (j .plan)) (j .accepted) (j .taken) (min (lentRows (j .plan) n) (j .plan .source .height - j .accepted))
@@ -109,7 +110,7 @@ offerWork j rows work =
 unfoldable pub takeNumber : Job → ℕ → ℕ → ℕ
 takeNumber j n w =
     firstOf (refusedIf (not (lawful j)) InvalidRecord)
-    (firstOf (refusedIf (not (eqb n (rowBytes (j .plan .target .width)))) OutputLength)
+    (firstOf (refusedIf (not (eqb n (rowBytes (lanesOf (j .plan)) (j .plan .target .width)))) OutputLength)
     (firstOf (shortWork (j .plan) w)
     (refusedIf (leb (R (j .plan) (j .accepted)) (j .taken)) NoneReady)))
 
@@ -123,14 +124,14 @@ rowTaken j work =
     let p : Plan = j .plan in
     tabulate
     (restoredPlace (p .layout)
-    (byteOut (span (p .crop .width) (p .target .width)) (p .crop .height) (p .target .height) (halfValues (p .target .width)) (usedBy j) (j .taken) work))
-    (rowBytes (p .target .width))
+    (byteOut (span (p .crop .width) (p .target .width)) (p .crop .height) (p .target .height) (halfValues (lanesOf p) (p .target .width)) (usedBy j) (j .taken) work))
+    (rowBytes (lanesOf p) (p .target .width))
 
 -- the work rows afterwards
 unfoldable pub workTaken : Job → List ℕ → List ℕ
 workTaken j work =
     let p : Plan = j .plan in
-    rowLeft (span (p .crop .width) (p .target .width)) (p .crop .height) (p .target .height) (halfValues (p .target .width)) (usedBy j) (j .taken) work
+    rowLeft (span (p .crop .width) (p .target .width)) (p .crop .height) (p .target .height) (halfValues (lanesOf p) (p .target .width)) (usedBy j) (j .taken) work
 
 -- the record with one row more taken, row being its bytes
 abbrev pub moreTaken : Job → List ℕ → Job

@@ -6,13 +6,17 @@ use lib.Dec.{eqb, leb}
 use Rattle.pixels.specs.declared.Dimensions.{Dimensions}
 use Rattle.pixels.specs.declared.Rect.{Rect}
 use Rattle.pixels.specs.declared.PixelLayout.{PixelLayout}
-use Rattle.pixels.specs.Sizes.{sizesNumber, Fits}
+use Rattle.pixels.specs.Sizes.{pixelLanes, sizesNumber, Fits}
 use Rattle.rows_schedule.specs.Schedule.{rowsBy}
 use Rattle.job.specs.declared.Plan.{Plan}
 use Rattle.job.specs.declared.Job.{Job}
 
 abbrev pub planOf : Dimensions → PixelLayout → Rect → Dimensions → Plan
 planOf source layout crop target = record { source = source; layout = layout; crop = crop; target = target }
+
+-- how many lanes the rows of a job have: a pixel's four
+abbrev pub lanesOf : Plan → ℕ
+lanesOf p = pixelLanes
 
 -- the record that an accepting start returns
 abbrev pub fresh : Plan → Job

@@ -24,7 +24,7 @@ ghost use Rattle.pixels.specs.Sizes.{rowBytes, halfValues, workValues, Fits};
 ghost use Rattle.rows.specs.WorkRows.{halfOf};
 ghost use Rattle.rows_restoring.specs.Restoring.{restoredFlag};
 ghost use Rattle.job.specs.Answers.{startedNumber, startedJob, offeredNumber, offeredRows, offeredJob, takenNumber, takenJob};
-ghost use Rattle.job.specs.Record.{R, planOf, fresh, lawful, readyOf, Rules};
+ghost use Rattle.job.specs.Record.{lanesOf, R, planOf, fresh, lawful, readyOf, Rules};
 ghost use Rattle.job.specs.Calls.{startNumber, startWork, lentRows, rowAccepted, fed, count, offerNumber, offerRows, offerJob, offerWork, takeNumber, takeJob, takeOut, takeWork};
 
 // What does not change in a job.
@@ -96,7 +96,7 @@ fn most_rows(j: Job, n: usize) -> u32
 
 // Where in the work rows the values of crop row c go.
 fn half_for(p: Plan, c: u32) -> usize
-    ensures { λ r. ⌜ r ≡ cond (leb (p .target .height) (p .crop .height)) (halfValues (p .target .width)) (halfOf (halfValues (p .target .width)) c) ⌝ }
+    ensures { λ r. ⌜ r ≡ cond (leb (p .target .height) (p .crop .height)) (halfValues (lanesOf p) (p .target .width)) (halfOf (halfValues (lanesOf p) (p .target .width)) c) ⌝ }
 {
     let w = 4 * p.target.width as usize;
     if p.target.height <= p.crop.height {
@@ -110,7 +110,7 @@ fn half_for(p: Plan, c: u32) -> usize
 
 // Source row s. Its crop window is a part of the row as lent; the layer below refuses none of these calls.
 fn row_in(p: Plan, row: &[u8], s: u32, work: &mut [u32])
-    requires { ⌜ Fits (p .source) (p .crop) (p .target) × (length (now row) ≡ rowBytes (p .source .width)) × (workValues (p .target .width) ≤ length (now work)) ⌝ }
+    requires { ⌜ Fits (p .source) (p .crop) (p .target) × (length (now row) ≡ rowBytes (lanesOf p) (p .source .width)) × (workValues (lanesOf p) (p .target .width) ≤ length (now work)) ⌝ }
     ensures { λ _. ⌜ now (work .exit) ≡ rowAccepted p (now (row .entry)) s (now (work .entry)) ⌝ }
 {
     if s < p.crop.y {

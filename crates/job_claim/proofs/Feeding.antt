@@ -10,7 +10,7 @@ use lib.ListN.{length, getD, take, drop}
 use lib.Seq.{getD-take, getD-drop, length-take-le}
 use lib.Dec.{leb, ltb}
 use borrow.Author.Tests.{le-leb, lt-leb, lt-ltb, le-ltb}
-use Rattle.pixels.specs.Sizes.{rowBytes, halfValues, workValues, Fits}
+use Rattle.pixels.specs.Sizes.{pixelLanes, rowBytes, halfValues, workValues, Fits}
 use Rattle.pixels_crop.specs.Crop.{pictureRow}
 use Rattle.rows_schedule.specs.Schedule.{used, since, rowsBy}
 use Rattle.rows_schedule.proofs.Crop.{Place, within, beside, place, inside, used-row, rows-le}
@@ -19,32 +19,32 @@ use Rattle.rows.specs.WorkRows.{rowIn}
 use Rattle.rows_laws.proofs.Held.{Held, held-in}
 use Rattle.rows_laws.proofs.WorkRows.{rowIn-length}
 use Rattle.job.specs.declared.Plan.{Plan}
-use Rattle.job.specs.Record.{R}
+use Rattle.job.specs.Record.{lanesOf, R}
 use Rattle.job.specs.Calls.{inCrop, valuesOf, rowAccepted, fed}
 use Rattle.job_claim.proofs.Reading.{cropValue, values-are}
 
 -- what the work rows hold once k source rows were accepted and t rows taken
 abbrev pub Holds : Plan → (ℕ → ℕ) → ℕ → ℕ → List ℕ → Type 0
 Holds p b k t work =
-    Held (p .crop .height) (p .target .height) (halfValues (p .target .width)) (cropValue p b) (used (p .crop .y) (p .crop .height) k) t work
+    Held (p .crop .height) (p .target .height) (halfValues (lanesOf p) (p .target .width)) (cropValue p b) (used (p .crop .y) (p .crop .height) k) t work
 
 -- ---- a row of the bytes lent
-module _ (rows : List ℕ) (w n i : ℕ) (here : rowBytes w * n ≤ length rows) (l : i < n) where
-  row-inside : rowBytes w * i + rowBytes w ≤ length rows
-  row-inside = omega (arith, mul-le-mul-left (rowBytes w) l)
+module _ (rows : List ℕ) (w n i : ℕ) (here : rowBytes pixelLanes w * n ≤ length rows) (l : i < n) where
+  row-inside : rowBytes pixelLanes w * i + rowBytes pixelLanes w ≤ length rows
+  row-inside = omega (arith, mul-le-mul-left (rowBytes pixelLanes w) l)
 
-  pub row-length : length (pictureRow rows w i) ≡ rowBytes w
+  pub row-length : length (pictureRow pixelLanes rows w i) ≡ rowBytes pixelLanes w
   unfolding pictureRow
-  row-length = length-take-le (rowBytes w) (drop (rowBytes w * i) rows) (simp lib.ListN.length-drop (omega (arith, row-inside)))
+  row-length = length-take-le (rowBytes pixelLanes w) (drop (rowBytes pixelLanes w * i) rows) (simp lib.ListN.length-drop (omega (arith, row-inside)))
 
-  pub row-byte : (z : ℕ) → z < rowBytes w → getD (pictureRow rows w i) z 0 ≡ getD rows (rowBytes w * i + z) 0
+  pub row-byte : (z : ℕ) → z < rowBytes pixelLanes w → getD (pictureRow pixelLanes rows w i) z 0 ≡ getD rows (rowBytes pixelLanes w * i + z) 0
   unfolding pictureRow
-  row-byte z u = getD-take (rowBytes w) (drop (rowBytes w * i) rows) z 0 u ∙ getD-drop (rowBytes w * i) rows z 0
+  row-byte z u = getD-take (rowBytes pixelLanes w) (drop (rowBytes pixelLanes w * i) rows) z 0 u ∙ getD-drop (rowBytes pixelLanes w * i) rows z 0
 
 -- ---- one source row
 module _ (p : Plan) (fits : Fits (p .source) (p .crop) (p .target)) where
   pub row-in : (row : List ℕ) (s : ℕ) (work : List ℕ) → p .crop .y ≤ s → s < p .crop .y + p .crop .height
-      → rowAccepted p row s work ≡ rowIn (p .crop .height) (p .target .height) (halfValues (p .target .width)) (s - p .crop .y) (valuesOf p row) work
+      → rowAccepted p row s work ≡ rowIn (p .crop .height) (p .target .height) (halfValues (lanesOf p) (p .target .width)) (s - p .crop .y) (valuesOf p row) work
   unfolding rowAccepted
   row-in row s work a b = simp (le-leb (p .crop .y) s a, lt-ltb s (p .crop .y + p .crop .height) b)
 
@@ -53,18 +53,18 @@ module _ (p : Plan) (fits : Fits (p .source) (p .crop) (p .target)) where
   row-beside row s work (inl a) = simp (lt-leb (p .crop .y) s a)
   row-beside row s work (inr a) = simp (le-leb (p .crop .y) s (omega arith), le-ltb s (p .crop .y + p .crop .height) a)
 
-  pub row-length-kept : (row : List ℕ) (s : ℕ) (work : List ℕ) → workValues (p .target .width) ≤ length work → length (rowAccepted p row s work) ≡ length work
+  pub row-length-kept : (row : List ℕ) (s : ℕ) (work : List ℕ) → workValues (lanesOf p) (p .target .width) ≤ length work → length (rowAccepted p row s work) ≡ length work
   row-length-kept row s work room = by (place (p .crop .y) (p .crop .height) s)
     where
       by : Place (p .crop .y) (p .crop .height) s → length (rowAccepted p row s work) ≡ length work
       by (within a b) =
           ap length (row-in row s work a b)
-          ∙ rowIn-length (p .crop .height) (p .target .height) (halfValues (p .target .width)) (s - p .crop .y) (valuesOf p row) work (omega arith)
+          ∙ rowIn-length (p .crop .height) (p .target .height) (halfValues (lanesOf p) (p .target .width)) (s - p .crop .y) (valuesOf p row) work (omega arith)
       by (beside e w) = ap length (row-beside row s work w)
 
   -- the row's bytes being those of b
-  pub row-held : (b : ℕ → ℕ) (row : List ℕ) (k t : ℕ) (work : List ℕ) → t ≤ R p k → length row ≡ rowBytes (p .source .width)
-      → ((z : ℕ) → z < rowBytes (p .source .width) → getD row z 0 ≡ b (rowBytes (p .source .width) * k + z))
+  pub row-held : (b : ℕ → ℕ) (row : List ℕ) (k t : ℕ) (work : List ℕ) → t ≤ R p k → length row ≡ rowBytes (lanesOf p) (p .source .width)
+      → ((z : ℕ) → z < rowBytes (lanesOf p) (p .source .width) → getD row z 0 ≡ b (rowBytes (lanesOf p) (p .source .width) * k + z))
       → Holds p b k t work → Holds p b (suc k) t (rowAccepted p row k work)
   row-held b row k t work le long agrees held = by (place (p .crop .y) (p .crop .height) k)
     where
@@ -73,22 +73,22 @@ module _ (p : Plan) (fits : Fits (p .source) (p .crop) (p .target)) where
           let u : ℕ = used (p .crop .y) (p .crop .height) k in
           let e : k - p .crop .y ≡ u = omega arith in
           let at : p .crop .y + u ≡ k = used-row (p .crop .y) (p .crop .height) k a c in
-          let same = values-are p b row u fits long (λ z l. agrees z l ∙ ap (λ (s : ℕ). b (rowBytes (p .source .width) * s + z)) (sym at)) in
+          let same = values-are p b row u fits long (λ z l. agrees z l ∙ ap (λ (s : ℕ). b (rowBytes (lanesOf p) (p .source .width) * s + z)) (sym at)) in
           rw (row-in row k work a c, e, inside (p .crop .y) (p .crop .height) k a c)
-          (held-in (p .crop .height) (p .target .height) (halfValues (p .target .width)) (cropValue p b) u t (valuesOf p row) work
+          (held-in (p .crop .height) (p .target .height) (halfValues (lanesOf p) (p .target .width)) (cropValue p b) u t (valuesOf p row) work
           (since-le (p .crop .height) (p .target .height) u t (fits .crop-height) (fits .target-height .some) le) same held)
       by (beside e w) = rw (row-beside row k work w, e) held
 
   -- ---- the first c of the rows lent, the first being source row k
-  pub fed-length : (rows : List ℕ) (k c : ℕ) (work : List ℕ) → workValues (p .target .width) ≤ length work → length (fed p rows k c work) ≡ length work
+  pub fed-length : (rows : List ℕ) (k c : ℕ) (work : List ℕ) → workValues (lanesOf p) (p .target .width) ≤ length work → length (fed p rows k c work) ≡ length work
   unfolding fed
   fed-length rows k zero work room = refl
   fed-length rows k (suc c) work room =
       let h = fed-length rows k c work room in
-      row-length-kept (pictureRow rows (p .source .width) c) (k + c) (fed p rows k c work) (omega arith) ∙ h
+      row-length-kept (pictureRow pixelLanes rows (p .source .width) c) (k + c) (fed p rows k c work) (omega arith) ∙ h
 
-  pub fed-held : (b : ℕ → ℕ) (rows : List ℕ) (k t c : ℕ) (work : List ℕ) → t ≤ R p k → rowBytes (p .source .width) * c ≤ length rows
-      → ((z : ℕ) → z < rowBytes (p .source .width) * c → getD rows z 0 ≡ b (rowBytes (p .source .width) * k + z))
+  pub fed-held : (b : ℕ → ℕ) (rows : List ℕ) (k t c : ℕ) (work : List ℕ) → t ≤ R p k → rowBytes (lanesOf p) (p .source .width) * c ≤ length rows
+      → ((z : ℕ) → z < rowBytes (lanesOf p) (p .source .width) * c → getD rows z 0 ≡ b (rowBytes (lanesOf p) (p .source .width) * k + z))
       → Holds p b k t work → Holds p b (k + c) t (fed p rows k c work)
   unfolding fed
   fed-held b rows k t zero work le here agrees held = let e : k + zero ≡ k = omega arith in rw e held
@@ -98,8 +98,8 @@ module _ (p : Plan) (fits : Fits (p .source) (p .crop) (p .target)) where
       let e' : c + k ≡ k + c = omega arith in
       let up = rows-le (p .crop .y) (p .crop .height) (p .target .height) (fits .crop-height) k c in
       let up' : R p k ≤ R p (k + c) = rw e' at up in
-      let less : rowBytes w * c ≤ length rows = omega arith in
+      let less : rowBytes pixelLanes w * c ≤ length rows = omega arith in
       let before = fed-held b rows k t c work le less (λ z l. agrees z (omega arith)) held in
       rw e
-      (row-held b (pictureRow rows w c) (k + c) t (fed p rows k c work) (le-trans le up') (row-length rows w (suc c) c here (omega arith))
-      (λ z l. row-byte rows w (suc c) c here (omega arith) z l ∙ agrees (rowBytes w * c + z) (omega arith) ∙ ap b (omega arith)) before)
+      (row-held b (pictureRow pixelLanes rows w c) (k + c) t (fed p rows k c work) (le-trans le up') (row-length rows w (suc c) c here (omega arith))
+      (λ z l. row-byte rows w (suc c) c here (omega arith) z l ∙ agrees (rowBytes pixelLanes w * c + z) (omega arith) ∙ ap b (omega arith)) before)

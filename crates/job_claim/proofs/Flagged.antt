@@ -9,7 +9,7 @@ use lib.ListN.{length, getD, length-append, List·getD-append}
 use lib.Seq.{getD-append-add}
 use lib.Dec.{eqb}
 use Rattle.pixels.specs.declared.PixelLayout.{PixelLayout}
-use Rattle.pixels.specs.Sizes.{lanes, rowBytes}
+use Rattle.pixels.specs.Sizes.{pixelLanes, rowBytes}
 use Rattle.pixels.specs.Layout.{placeOf, alphaLane, alphaAt}
 use Rattle.pixels_alpha.specs.Alpha.{someClear, hasAlpha}
 use Rattle.pixels.proofs.Tabled.{place-lt}
@@ -29,16 +29,16 @@ pub hasAlpha-none : (l : PixelLayout) (s : List ℕ) → hasAlpha l s 0 ≡ fals
 unfolding hasAlpha someClear
 hasAlpha-none l s = refl
 
-module _ (l : PixelLayout) (a b : List ℕ) (n k : ℕ) (long : length a ≡ rowBytes n) where
+module _ (l : PixelLayout) (a b : List ℕ) (n k : ℕ) (long : length a ≡ rowBytes pixelLanes n) where
   first-alpha : (i : ℕ) → i < n → alphaAt l (a ++ b) i ≡ alphaAt l a i
   first-alpha i u =
       let small = place-lt l alphaLane (omega arith) in
-      List·getD-append a b 0 (lanes * i + placeOf l alphaLane) (omega arith)
+      List·getD-append a b 0 (pixelLanes * i + placeOf l alphaLane) (omega arith)
 
   second-alpha : (i : ℕ) → alphaAt l (a ++ b) (n + i) ≡ alphaAt l b i
   second-alpha i =
-      let e : lanes * (n + i) + placeOf l alphaLane ≡ length a + (lanes * i + placeOf l alphaLane) = omega arith in
-      ap (λ (z : ℕ). getD (a ++ b) z 0) e ∙ getD-append-add a b (lanes * i + placeOf l alphaLane) 0
+      let e : pixelLanes * (n + i) + placeOf l alphaLane ≡ length a + (pixelLanes * i + placeOf l alphaLane) = omega arith in
+      ap (λ (z : ℕ). getD (a ++ b) z 0) e ∙ getD-append-add a b (pixelLanes * i + placeOf l alphaLane) 0
 
   pub hasAlpha-append : hasAlpha l (a ++ b) (n + k) ≡ (hasAlpha l a n || hasAlpha l b k)
   unfolding hasAlpha
@@ -61,7 +61,7 @@ joined-length m (row ∷ rows) same =
     omega (arith, length-append row (joined rows), same 0 (omega arith), joined-length m rows (λ y l. same (suc y) (omega arith)))
 
 -- the flag with one more row of m pixels
-pub joined-flag : (l : PixelLayout) (rows : List (List ℕ)) (row : List ℕ) (m t : ℕ) → length (joined rows) ≡ rowBytes m * t
+pub joined-flag : (l : PixelLayout) (rows : List (List ℕ)) (row : List ℕ) (m t : ℕ) → length (joined rows) ≡ rowBytes pixelLanes m * t
     → hasAlpha l (joined (rows ++ (row ∷ []))) (m * suc t) ≡ (hasAlpha l (joined rows) (m * t) || hasAlpha l row m)
 joined-flag l rows row m t long =
     let e : m * suc t ≡ m * t + m = omega arith in

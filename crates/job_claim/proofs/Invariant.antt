@@ -12,14 +12,14 @@ use lib.ListN.{length, getD, take, drop, replicate, length-append, length-take, 
 use lib.Seq.{getD-take, getD-append-add, getD-at, length-take-le}
 use lib.Dec.{eqb}
 use borrow.Author.Tests.{eq-eqb}
-use Rattle.pixels.specs.Sizes.{lanes, rowBytes, halfValues, workValues, Fits}
+use Rattle.pixels.specs.Sizes.{pixelLanes, rowBytes, halfValues, workValues, Fits}
 use Rattle.pixels_alpha.specs.Alpha.{hasAlpha}
 use Rattle.rows_schedule.specs.Schedule.{used}
 use Rattle.rows_schedule.proofs.Crop.{rows-le, rows-none}
 use Rattle.rows_laws.proofs.Held.{held-start, held-same}
 use Rattle.job.specs.declared.Plan.{Plan}
 use Rattle.job.specs.declared.Job.{Job}
-use Rattle.job.specs.Record.{R, Rules, fresh}
+use Rattle.job.specs.Record.{lanesOf, R, Rules, fresh}
 use Rattle.job.specs.Calls as calls
 use Rattle.job.specs.Calls.{count, lentRows, moreAccepted, moreTaken, fed, rowTaken, workTaken, startNumber, startWork, cleared}
 use Rattle.job.proofs.Counting.{counted-most, counted-low, counted-some}
@@ -44,10 +44,10 @@ runAt p s work = record { job = jobAt p s; work = work; seen = s }
 
 pub record Inv (p : Plan) (s : Seen) (work : List ℕ) : Type 0 where
   pub rules : Rules (jobAt p s)
-  pub room : workValues (p .target .width) ≤ length work
-  pub bytes : length (s .source) ≡ rowBytes (p .source .width) * s .accepted
+  pub room : workValues (lanesOf p) (p .target .width) ≤ length work
+  pub bytes : length (s .source) ≡ rowBytes (lanesOf p) (p .source .width) * s .accepted
   pub outs : length (s .rows) ≡ s .taken
-  pub out-bytes : length (joined (s .rows)) ≡ rowBytes (p .target .width) * s .taken
+  pub out-bytes : length (joined (s .rows)) ≡ rowBytes (lanesOf p) (p .target .width) * s .taken
   pub held : (b : ℕ → ℕ) → Agrees b (s .source) → Holds p b (s .accepted) (s .taken) work
   pub handed : (b : ℕ → ℕ) → Agrees b (s .source) → (y : ℕ) → y < s .taken → getD (s .rows) y [] ≡ rowOf p b y
   pub flagged : s .flag ≡ hasAlpha (p .layout) (joined (s .rows)) (p .target .width * s .taken)
@@ -61,15 +61,15 @@ pub record Kept (p : Plan) (r : Run) : Type 0 where
 
 -- ---- what is lent of the work values holds what they hold
 module _ (p : Plan) (b : ℕ → ℕ) (k t : ℕ) where
-  held-lent : (lent : ℕ) (work : List ℕ) → workValues (p .target .width) ≤ length (take lent work) → Holds p b k t work → Holds p b k t (take lent work)
+  held-lent : (lent : ℕ) (work : List ℕ) → workValues (lanesOf p) (p .target .width) ≤ length (take lent work) → Holds p b k t work → Holds p b k t (take lent work)
   held-lent lent work room held =
-      let l : workValues (p .target .width) ≤ min lent (length work) = rw length-take at room in
-      held-same (p .crop .height) (p .target .height) (halfValues (p .target .width)) (cropValue p b) _ t work (take lent work) (omega arith)
+      let l : workValues (lanesOf p) (p .target .width) ≤ min lent (length work) = rw length-take at room in
+      held-same (p .crop .height) (p .target .height) (halfValues (lanesOf p) (p .target .width)) (cropValue p b) _ t work (take lent work) (omega arith)
       (λ i h. getD-take lent work i 0 (omega arith)) held
 
-  held-back : (part rest : List ℕ) → workValues (p .target .width) ≤ length part → Holds p b k t part → Holds p b k t (part ++ rest)
+  held-back : (part rest : List ℕ) → workValues (lanesOf p) (p .target .width) ≤ length part → Holds p b k t part → Holds p b k t (part ++ rest)
   held-back part rest room held =
-      held-same (p .crop .height) (p .target .height) (halfValues (p .target .width)) (cropValue p b) _ t part (part ++ rest) (rw length-append (omega arith))
+      held-same (p .crop .height) (p .target .height) (halfValues (lanesOf p) (p .target .width)) (cropValue p b) _ t part (part ++ rest) (rw length-append (omega arith))
       (λ i h. List·getD-append part rest 0 i (omega arith)) held
 
 agrees-left : (b : ℕ → ℕ) (s t : List ℕ) → Agrees b (s ++ t) → Agrees b s
@@ -80,14 +80,14 @@ agrees-right b s t h i l = sym (getD-append-add s t i 0) ∙ h (length s + i) (r
 
 -- ---- the rows lent, and how many are accepted
 module _ (p : Plan) (n : ℕ) (whole : WholeRows p n) where
-  pub rows-lent : n ≡ rowBytes (p .source .width) * lentRows p n
-  rows-lent = omega (arith, div-add-mod n (rowBytes (p .source .width)), whole .whole)
+  pub rows-lent : n ≡ rowBytes (lanesOf p) (p .source .width) * lentRows p n
+  rows-lent = omega (arith, div-add-mod n (rowBytes (lanesOf p) (p .source .width)), whole .whole)
 
   pub some-lent : 0 < lentRows p n
   some-lent = by (lentRows p n) refl
     where
       by : (x : ℕ) → lentRows p n ≡ x → 0 < x
-      by zero e = absurd (let q : n ≡ rowBytes (p .source .width) * 0 = rows-lent ∙ ap (λ (z : ℕ). rowBytes (p .source .width) * z) e in omega (arith, whole .some))
+      by zero e = absurd (let q : n ≡ rowBytes (lanesOf p) (p .source .width) * 0 = rows-lent ∙ ap (λ (z : ℕ). rowBytes (lanesOf p) (p .source .width) * z) e in omega (arith, whole .some))
       by (suc x) e = omega arith
 
 module _ (j : Job) (n : ℕ) where
@@ -102,10 +102,10 @@ module _ (j : Job) (n : ℕ) where
       let q = some-lent (j .plan) n whole in
       counted-some (R (j .plan)) (j .accepted) (j .taken) (min (lentRows (j .plan) n) (j .plan .source .height - j .accepted)) (omega arith) a
 
-  pub count-bytes : WholeRows (j .plan) n → rowBytes (j .plan .source .width) * count j n ≤ n
+  pub count-bytes : WholeRows (j .plan) n → rowBytes (lanesOf (j .plan)) (j .plan .source .width) * count j n ≤ n
   count-bytes whole =
       let l : count j n ≤ lentRows (j .plan) n = omega (arith, count-most) in
-      omega (arith, rows-lent (j .plan) n whole, mul-le-mul-left (rowBytes (j .plan .source .width)) l)
+      omega (arith, rows-lent (j .plan) n whole, mul-le-mul-left (rowBytes (lanesOf (j .plan)) (j .plan .source .width)) l)
 
 -- ---- the rules are kept
 pub offer-rules : (j : Job) (n : ℕ) → Rules j → WholeRows (j .plan) n → R (j .plan) (j .accepted) ≤ j .taken → j .accepted < j .plan .source .height → Rules (moreAccepted j (count j n))
@@ -138,7 +138,7 @@ take-rules j row q l = record {
 none-seen : (p : Plan) (s : Seen) (rows : List ℕ) (c : ℕ) → c ≡ 0 → seenOffer p s rows c ≡ s
 none-seen p s rows c e =
     let a : s .accepted + c ≡ s .accepted = omega arith in
-    let z : rowBytes (p .source .width) * c ≡ 0 = omega (arith, ap (λ (t : ℕ). p .source .width * t) e) in
+    let z : rowBytes (lanesOf p) (p .source .width) * c ≡ 0 = omega (arith, ap (λ (t : ℕ). p .source .width * t) e) in
     rw (a, z, append-nil (s .source)) refl
 
 module _ (p : Plan) (s : Seen) (work : List ℕ) (v : Inv p s work) where
@@ -161,7 +161,7 @@ module _ (p : Plan) (s : Seen) (work : List ℕ) (v : Inv p s work) where
     pub offer-kept : OfferWent (jobAt p s) rows (take lent work) → Inv p (seenOffer p s rows (count (jobAt p s) (length rows))) (fed p rows (s .accepted) (count (jobAt p s) (length rows)) (take lent work) ++ drop lent work)
     offer-kept o =
         let n : ℕ = count (jobAt p s) (length rows) in
-        let w : ℕ = rowBytes (p .source .width) in
+        let w : ℕ = rowBytes (lanesOf p) (p .source .width) in
         let here = count-bytes (jobAt p s) (length rows) (o .whole) in
         let len : length (fed p rows (s .accepted) n (take lent work)) ≡ length (take lent work) = fed-length p (o .rules .sizes) rows (s .accepted) n (take lent work) (o .room) in
         record {
@@ -256,7 +256,7 @@ unfolding joined
 begun-inv p work o =
     let none : R p 0 ≡ 0 = rows-none (p .crop .y) (p .crop .height) (p .target .height) (o .sizes .crop-height) in
     let unused : used (p .crop .y) (p .crop .height) 0 ≡ 0 = omega arith in
-    let both : workValues (p .target .width) ≡ halfValues (p .target .width) + halfValues (p .target .width) = omega arith in
+    let both : workValues (lanesOf p) (p .target .width) ≡ halfValues (lanesOf p) (p .target .width) + halfValues (lanesOf p) (p .target .width) = omega arith in
     record {
       rules = record {
         sizes = o .sizes;
@@ -269,7 +269,7 @@ begun-inv p work o =
       bytes = omega arith;
       outs = refl;
       out-bytes = omega arith;
-      held = λ b agree. rw (unused, both) (held-start (p .crop .height) (p .target .height) (halfValues (p .target .width)) (cropValue p b) (drop (halfValues (p .target .width) + halfValues (p .target .width)) work));
+      held = λ b agree. rw (unused, both) (held-start (p .crop .height) (p .target .height) (halfValues (lanesOf p) (p .target .width)) (cropValue p b) (drop (halfValues (lanesOf p) (p .target .width) + halfValues (lanesOf p) (p .target .width)) work));
       handed = λ b agree y l. absurd (omega arith);
       flagged = rw mul-zero (sym (hasAlpha-none (p .layout) []));
     }

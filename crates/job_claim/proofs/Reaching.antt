@@ -10,11 +10,11 @@ use lib.ListN.{length, getD, take, drop, replicate, length-replicate}
 use lib.Seq.{take-length, take-add, take-all}
 use Rattle.arithmetic.proofs.Orders.{le-or-lt}
 use Rattle.arithmetic.proofs.Quotients.{div-is}
-use Rattle.pixels.specs.Sizes.{rowBytes, pictureBytes, workValues}
+use Rattle.pixels.specs.Sizes.{pixelLanes, rowBytes, pictureBytes, workValues}
 use Rattle.pixels_crop.specs.Crop.{pictureRow}
 use Rattle.rows_schedule.proofs.Crop.{rows-most, rows-all}
 use Rattle.job.specs.declared.Plan.{Plan}
-use Rattle.job.specs.Record.{R}
+use Rattle.job.specs.Record.{lanesOf, R}
 use Rattle.job.specs.Calls.{count, lentRows, startNumber}
 use Rattle.job.proofs.Views
 use Rattle.job.proofs.Views.{WholeRows}
@@ -46,20 +46,20 @@ one-row w pos = div-is w (omega arith) (omega arith)
 no-rest : (w : ℕ) → 0 < w → w % w ≡ 0
 no-rest w pos = omega (arith, div-add-mod w w, ap (λ (x : ℕ). w * x) (one-row w pos))
 
-module _ (p : Plan) (pixels : List ℕ) (long : length pixels ≡ pictureBytes (p .source .width) (p .source .height)) where
+module _ (p : Plan) (pixels : List ℕ) (long : length pixels ≡ pictureBytes pixelLanes (p .source .width) (p .source .height)) where
   left : Seen → ℕ
   left s = p .source .height - s .accepted + (p .target .height - s .taken)
 
   -- the bytes accepted are the first of the picture's
   First : Seen → Type 0
-  First s = s .source ≡ take (rowBytes (p .source .width) * s .accepted) pixels
+  First s = s .source ≡ take (rowBytes (lanesOf p) (p .source .width) * s .accepted) pixels
 
   -- one row more
-  next : (k : ℕ) → length (pictureRow pixels (p .source .width) k) ≡ rowBytes (p .source .width)
-      → take (rowBytes (p .source .width) * k) pixels ++ take (rowBytes (p .source .width) * 1) (pictureRow pixels (p .source .width) k) ≡ take (rowBytes (p .source .width) * (k + 1)) pixels
+  next : (k : ℕ) → length (pictureRow pixelLanes pixels (p .source .width) k) ≡ rowBytes (lanesOf p) (p .source .width)
+      → take (rowBytes (lanesOf p) (p .source .width) * k) pixels ++ take (rowBytes (lanesOf p) (p .source .width) * 1) (pictureRow pixelLanes pixels (p .source .width) k) ≡ take (rowBytes (lanesOf p) (p .source .width) * (k + 1)) pixels
   unfolding pictureRow
   next k len =
-      let w : ℕ = rowBytes (p .source .width) in
+      let w : ℕ = rowBytes (lanesOf p) (p .source .width) in
       let one : w * 1 ≡ w = omega arith in
       let more : w * (k + 1) ≡ w * k + w = omega arith in
       rw (one, more, take-add (w * k) w pixels) (ap (λ (t : List ℕ). take (w * k) pixels ++ t) (take-all w (take w (drop (w * k) pixels)) (omega arith)))
@@ -76,7 +76,7 @@ module _ (p : Plan) (pixels : List ℕ) (long : length pixels ≡ pictureBytes (
         record {
           calls = [];
           none-refused = tt;
-          source = first ∙ take-all (rowBytes (p .source .width) * s .accepted) pixels (rw (long, same) (omega arith));
+          source = first ∙ take-all (rowBytes (lanesOf p) (p .source .width) * s .accepted) pixels (rw (long, same) (omega arith));
           accepted = same;
           taken = rw (← same) (omega (arith, v .rules .high));
         }
@@ -85,8 +85,8 @@ module _ (p : Plan) (pixels : List ℕ) (long : length pixels ≡ pictureBytes (
       by-take : s .taken < R p (s .accepted) → Way p pixels (runAt p s work)
       unfolding left First
       by-take a =
-          let out : List ℕ = replicate (rowBytes (p .target .width)) 0 in
-          let goes = Views.take-goes (jobAt p s) (length out) (length (take (length work) work)) (v .rules) (length-replicate (rowBytes (p .target .width)) 0) (rw (take-length work) (v .room)) a in
+          let out : List ℕ = replicate (rowBytes (lanesOf p) (p .target .width)) 0 in
+          let goes = Views.take-goes (jobAt p s) (length out) (length (take (length work) work)) (v .rules) (length-replicate (rowBytes (lanesOf p) (p .target .width)) 0) (rw (take-length work) (v .room)) a in
           let o = Views.take-went (jobAt p s) out (take (length work) work) goes in
           take-first p pixels (runAt p s work) out (length work) goes
           (rw (take-leads p s work v out (length work) o) (ih _ _ (take-kept p s work v out (length work) o) first (omega (arith, most))))
@@ -94,8 +94,8 @@ module _ (p : Plan) (pixels : List ℕ) (long : length pixels ≡ pictureBytes (
       by-offer : R p (s .accepted) ≤ s .taken → s .accepted < p .source .height → Way p pixels (runAt p s work)
       unfolding left First
       by-offer a b =
-          let w : ℕ = rowBytes (p .source .width) in
-          let row : List ℕ = pictureRow pixels (p .source .width) (s .accepted) in
+          let w : ℕ = rowBytes (lanesOf p) (p .source .width) in
+          let row : List ℕ = pictureRow pixelLanes pixels (p .source .width) (s .accepted) in
           let some : 0 < w = omega (arith, v .rules .sizes .source-width .some) in
           let len : length row ≡ w = row-length pixels (p .source .width) (p .source .height) (s .accepted) (omega arith) b in
           let whole : WholeRows p (length row) = record { some = omega arith; whole = rw len (no-rest w some) } in
@@ -118,12 +118,12 @@ module _ (p : Plan) (pixels : List ℕ) (long : length pixels ≡ pictureBytes (
       by ih (inl a) (inr b) = by-offer s work v first n ih e a b
       by ih (inl a) (inl b) = arrived s work v first a b
 
-pub some-list : (p : Plan) (work : List ℕ) → startNumber p (length work) ≡ 0 → (pixels : List ℕ) → length pixels ≡ pictureBytes (p .source .width) (p .source .height)
+pub some-list : (p : Plan) (work : List ℕ) → startNumber p (length work) ≡ 0 → (pixels : List ℕ) → length pixels ≡ pictureBytes pixelLanes (p .source .width) (p .source .height)
     → (calls : List Call) × Reached p work pixels calls
 unfolding left First
 some-list p work e pixels long =
     let o = Views.start-went p work e in
-    let w = way p pixels long _ nothing _ (begun-inv p work o) (ap (λ (n : ℕ). take n pixels) (let q : 0 ≡ rowBytes (p .source .width) * 0 = omega arith in q)) refl in (
+    let w = way p pixels long _ nothing _ (begun-inv p work o) (ap (λ (n : ℕ). take n pixels) (let q : 0 ≡ rowBytes (lanesOf p) (p .source .width) * 0 = omega arith in q)) refl in (
       w .calls,
       record {
         none-refused = rw (o .work-after) (w .none-refused);

@@ -12,7 +12,7 @@ use Rattle.arithmetic.specs.Weight.{span}
 use Rattle.arithmetic.specs.Table.{tabulate}
 use Rattle.arithmetic.proofs.Tables.{length-tabulate, getD-tabulate, tabulate-cong}
 use Rattle.pixels.specs.declared.PixelLayout.{PixelLayout}
-use Rattle.pixels.specs.Sizes.{lanes, rowBytes, halfValues, workValues, Fits}
+use Rattle.pixels.specs.Sizes.{pixelLanes, rowBytes, halfValues, workValues, Fits}
 use Rattle.pixels.specs.Layout.{placeOf, alphaLane, packedByte}
 use Rattle.pixels.specs.Lanes.{restoredPixel, restoredPlace}
 use Rattle.pixels.proofs.Tabled.{place-lt, place-twice}
@@ -28,7 +28,7 @@ use Rattle.rows_laws.proofs.Distance.{distance}
 use Rattle.rows_laws.proofs.Taken.{takenPixel, Matted, matte-matted, taken-alpha, taken-opaque}
 use Rattle.job.specs.declared.Plan.{Plan}
 use Rattle.job.specs.declared.Job.{Job}
-use Rattle.job.specs.Record.{R, Rules}
+use Rattle.job.specs.Record.{lanesOf, R, Rules}
 use Rattle.job.specs.Calls.{usedBy, rowTaken, workTaken}
 use Rattle.job_claim.specs.Rows.{sourceByte, mattedByte, scaledLane, rowOf}
 use Rattle.job.proofs.Restoring.{restored-cong}
@@ -46,23 +46,23 @@ module _ (j : Job) (rules : Rules j) (ready : j .taken < R (j .plan) (j .accepte
   unfolding rowTaken rowOf scaledLane scaled cropValue
   row-is b work held =
       let p : Plan = j .plan in
-      tabulate-cong _ _ (rowBytes (p .target .width))
+      tabulate-cong _ _ (rowBytes (lanesOf p) (p .target .width))
       (λ z l. restored-cong (p .layout) _ _ (p .target .width) z l
-      (λ x u. held-byte (p .crop .height) (p .target .height) (halfValues (p .target .width)) (cropValue p b) (usedBy j) (j .taken) work (rules .sizes .crop-height)
+      (λ x u. held-byte (p .crop .height) (p .target .height) (halfValues (lanesOf p) (p .target .width)) (cropValue p b) (usedBy j) (j .taken) work (rules .sizes .crop-height)
       (rules .sizes .target-height .some) row-needs held (span (p .crop .width) (p .target .width)) x u))
 
   pub left-holds : (b : ℕ → ℕ) (work : List ℕ) → Holds (j .plan) b (j .accepted) (j .taken) work → Holds (j .plan) b (j .accepted) (suc (j .taken)) (workTaken j work)
   unfolding workTaken
   left-holds b work held =
       let p : Plan = j .plan in
-      held-out (p .crop .height) (p .target .height) (halfValues (p .target .width)) (cropValue p b) (usedBy j) (j .taken) work (rules .sizes .crop-height)
+      held-out (p .crop .height) (p .target .height) (halfValues (lanesOf p) (p .target .width)) (cropValue p b) (usedBy j) (j .taken) work (rules .sizes .crop-height)
       (rules .sizes .target-height .some) row-needs held (span (p .crop .width) (p .target .width)) (cropValue-word p b (rules .sizes))
 
-pub row-taken-length : (j : Job) (work : List ℕ) → length (rowTaken j work) ≡ rowBytes (j .plan .target .width)
+pub row-taken-length : (j : Job) (work : List ℕ) → length (rowTaken j work) ≡ rowBytes (lanesOf (j .plan)) (j .plan .target .width)
 unfolding rowTaken
-row-taken-length j work = length-tabulate _ (rowBytes (j .plan .target .width))
+row-taken-length j work = length-tabulate _ (rowBytes (lanesOf (j .plan)) (j .plan .target .width))
 
-pub left-length : (j : Job) (work : List ℕ) → workValues (j .plan .target .width) ≤ length work → length (workTaken j work) ≡ length work
+pub left-length : (j : Job) (work : List ℕ) → workValues (lanesOf (j .plan)) (j .plan .target .width) ≤ length work → length (workTaken j work) ≡ length work
 unfolding workTaken
 left-length j work room = rowLeft-length _ _ _ _ _ _ work (omega arith)
 
@@ -71,21 +71,21 @@ module _ (p : Plan) (b : ℕ → ℕ) (y i : ℕ) (inside : i < p .target .width
   abbrev pixel : ℕ
   pixel = takenPixel (p .crop .width) (p .target .width) (p .crop .height) (p .target .height) (mattedByte p b) i y
 
-  lane-of : (k : ℕ) → k < lanes → scaledLane p b y (lanes * i + k) ≡ scaled (p .crop .width) (p .target .width) (p .crop .height) (p .target .height) (mattedByte p b k) i y
+  lane-of : (k : ℕ) → k < pixelLanes → scaledLane p b y (pixelLanes * i + k) ≡ scaled (p .crop .width) (p .target .width) (p .crop .height) (p .target .height) (mattedByte p b k) i y
   unfolding scaledLane
   lane-of k l =
-      let q : (lanes * i + k) % lanes ≡ k = omega arith in
-      let d : (lanes * i + k) / lanes ≡ i = omega arith in
+      let q : (pixelLanes * i + k) % pixelLanes ≡ k = omega arith in
+      let d : (pixelLanes * i + k) / pixelLanes ≡ i = omega arith in
       rw (q, d)
 
-  pub row-lane : (k : ℕ) → k < lanes → getD (rowOf p b y) (lanes * i + placeOf (p .layout) k) 0 ≡ laneOf pixel k
+  pub row-lane : (k : ℕ) → k < pixelLanes → getD (rowOf p b y) (pixelLanes * i + placeOf (p .layout) k) 0 ≡ laneOf pixel k
   unfolding rowOf restoredPlace packedByte restoredPixel
   row-lane k l =
       let small = place-lt (p .layout) k l in
-      let z : ℕ = lanes * i + placeOf (p .layout) k in
-      let q : (lanes * i + placeOf (p .layout) k) % lanes ≡ placeOf (p .layout) k = omega arith in
-      let d : (lanes * i + placeOf (p .layout) k) / lanes ≡ i = omega arith in
-      getD-tabulate _ (rowBytes (p .target .width)) z (omega arith)
+      let z : ℕ = pixelLanes * i + placeOf (p .layout) k in
+      let q : (pixelLanes * i + placeOf (p .layout) k) % pixelLanes ≡ placeOf (p .layout) k = omega arith in
+      let d : (pixelLanes * i + placeOf (p .layout) k) / pixelLanes ≡ i = omega arith in
+      getD-tabulate _ (rowBytes (lanesOf p) (p .target .width)) z (omega arith)
       ∙ rw (q, d, place-twice (p .layout) k l)
       (ap (λ (t : ℕ). laneOf (multArgb t true) k) (pixel-cong _ _ lane-of))
 
@@ -100,13 +100,13 @@ module _ (p : Plan) (b : ℕ → ℕ) (y i : ℕ) (inside : i < p .target .width
     unfolding mattedByte
     matted-picture = matte-matted (p .crop .width) (p .crop .height) (λ c i'. pixelOf (sourceByte p b c i'))
 
-    pub alpha-near : Near (getD (rowOf p b y) (lanes * i + placeOf (p .layout) alphaLane) 0) (exactSum (p .crop .width) (p .target .width) (p .crop .height) (p .target .height) (mattedByte p b alphaLane) i y) (total (p .crop .width) (p .target .width) (p .crop .height) (p .target .height))
+    pub alpha-near : Near (getD (rowOf p b y) (pixelLanes * i + placeOf (p .layout) alphaLane) 0) (exactSum (p .crop .width) (p .target .width) (p .crop .height) (p .target .height) (mattedByte p b alphaLane) i y) (total (p .crop .width) (p .target .width) (p .crop .height) (p .target .height))
     alpha-near =
         rw (row-lane alphaLane (omega arith) ∙ taken-alpha (p .crop .width) (p .target .width) (p .crop .height) (p .target .height) i y (fits .crop-width) (fits .target-width .most) (fits .crop-height) (fits .target-height .most) inside row (premise .shrinking) (mattedByte p b) matted-picture)
         (lane-near alphaLane)
 
-    pub colour-near : getD (rowOf p b y) (lanes * i + placeOf (p .layout) alphaLane) 0 ≡ 255 → (k : ℕ) → k < alphaLane
-        → Near (getD (rowOf p b y) (lanes * i + placeOf (p .layout) k) 0) (exactSum (p .crop .width) (p .target .width) (p .crop .height) (p .target .height) (mattedByte p b k) i y) (total (p .crop .width) (p .target .width) (p .crop .height) (p .target .height))
+    pub colour-near : getD (rowOf p b y) (pixelLanes * i + placeOf (p .layout) alphaLane) 0 ≡ 255 → (k : ℕ) → k < alphaLane
+        → Near (getD (rowOf p b y) (pixelLanes * i + placeOf (p .layout) k) 0) (exactSum (p .crop .width) (p .target .width) (p .crop .height) (p .target .height) (mattedByte p b k) i y) (total (p .crop .width) (p .target .width) (p .crop .height) (p .target .height))
     colour-near opaque k l =
         rw (row-lane k (omega arith) ∙ taken-opaque (p .crop .width) (p .target .width) (p .crop .height) (p .target .height) i y (fits .crop-width) (fits .target-width .most) (fits .crop-height) (fits .target-height .most) inside row (premise .shrinking) (mattedByte p b) matted-picture (sym (row-lane alphaLane (omega arith)) ∙ opaque) k (omega arith))
         (lane-near k)

@@ -13,7 +13,7 @@ use borrow.Author.Tests.{eq-eqb}
 use Rattle.arithmetic.proofs.Orders.{le-or-lt}
 use Rattle.arithmetic.specs.Weight.{span}
 use Rattle.pixels.specs.declared.Refusal.the-variants.{RowReady, AllAccepted, NoneReady}
-use Rattle.pixels.specs.Sizes.{lanes, rowBytes, pictureBytes, workValues, sizeOf, Fits}
+use Rattle.pixels.specs.Sizes.{pixelLanes, rowBytes, pictureBytes, workValues, sizeOf, Fits}
 use Rattle.pixels.specs.Layout.{placeOf, alphaLane}
 use Rattle.pixels_alpha.specs.Alpha.{hasAlpha}
 use Rattle.pixels_crop.specs.Crop.{cropped}
@@ -21,7 +21,7 @@ use Rattle.rows_schedule.proofs.Crop.{rows-all, rows-most}
 use Rattle.rows.specs.Mean.{exactSum, total, Near, Premise}
 use Rattle.job.specs.declared.Plan.{Plan}
 use Rattle.job.specs.declared.Job.{Job}
-use Rattle.job.specs.Record.{R}
+use Rattle.job.specs.Record.{lanesOf, R}
 use Rattle.job.specs.Calls.{count, lentRows, startNumber}
 use Rattle.job.proofs.Counting.{counted-stop}
 use Rattle.job.proofs.Views
@@ -114,8 +114,8 @@ ready-of p (suc n) s work v e = λ out lent b.
     (goes, rw (take-leads p s work v out lent o) (ready-of p n _ _ (take-kept p s work v out lent o) (omega arith)))
 
 -- there are buffers of the right length
-right-take : (p : Plan) (s : Seen) (work : List ℕ) → Inv p s work → RightTake p (runAt p s work) (replicate (rowBytes (p .target .width)) 0) (length work)
-right-take p s work v = record { exact = length-replicate (rowBytes (p .target .width)) 0; room = rw (take-length work) (v .room) }
+right-take : (p : Plan) (s : Seen) (work : List ℕ) → Inv p s work → RightTake p (runAt p s work) (replicate (rowBytes (lanesOf p) (p .target .width)) 0) (length work)
+right-take p s work v = record { exact = length-replicate (rowBytes (lanesOf p) (p .target .width)) 0; room = rw (take-length work) (v .room) }
 
 ready-only : (p : Plan) (n : ℕ) (s : Seen) (work : List ℕ) → Inv p s work → Ready p (runAt p s work) n → n + s .taken ≡ R p (s .accepted)
 ready-only p zero s work v f = by (le-or-lt (R p (s .accepted)) (s .taken))
@@ -134,7 +134,7 @@ ready-only p (suc n) s work v f = by (ready-only p n) (le-or-lt (R p (s .accepte
         absurd (omega (arith, f _ _ b .0, take-refused p s work v _ _ b h))
     by ih (inr h) =
         let b = right-take p s work v in
-        let out : List ℕ = replicate (rowBytes (p .target .width)) 0 in
+        let out : List ℕ = replicate (rowBytes (lanesOf p) (p .target .width)) 0 in
         let o = took p s work v out (length work) (take-succeeds p s work v _ _ b h) in
         let next : n + (s .taken + 1) ≡ R p (s .accepted) =
         ih _ _ (take-kept p s work v out (length work) o) (rw (take-leads p s work v out (length work) o) at (f _ _ b .1)) in

@@ -16,7 +16,7 @@ use Rattle.arithmetic.specs.Weight.{span}
 use Rattle.arithmetic.proofs.Tables.{length-tabulate, tabulate-cong}
 use Rattle.pixels.specs.declared.Dimensions.{Dimensions}
 use Rattle.pixels.specs.declared.Rect.{Rect}
-use Rattle.pixels.specs.Sizes.{lanes, rowBytes, pictureBytes, halfValues, sizeOf, Fits}
+use Rattle.pixels.specs.Sizes.{pixelLanes, rowBytes, pictureBytes, halfValues, sizeOf, Fits}
 use Rattle.pixels.specs.Layout.{placeOf}
 use Rattle.pixels.specs.Lanes.{restoredPlace}
 use Rattle.pixels_alpha.specs.Alpha.{hasAlpha}
@@ -28,7 +28,7 @@ use Rattle.rows.specs.Column.{value}
 use Rattle.rows.specs.Closed.{scaled}
 use Rattle.rows_laws.proofs.Reach.{scaledByte-same}
 use Rattle.job.specs.declared.Plan.{Plan}
-use Rattle.job.specs.Record.{R}
+use Rattle.job.specs.Record.{lanesOf, R}
 use Rattle.job_claim.specs.Rows.{sourceByte, mattedByte, scaledLane, rowOf, joined, rowsOf, resizePlan, resized, resizedFlag}
 use Rattle.job_claim.specs.Calls.{Run}
 use Rattle.arithmetic.proofs.Mattes.{pixel-cong}
@@ -42,61 +42,61 @@ use Rattle.job_claim.proofs.Flagged.{joined-append}
 
 -- row c of the crop, and where its byte z stands in a picture w pixels wide
 abbrev cropRow : List ℕ → ℕ → Rect → ℕ → List ℕ
-cropRow pixels w crop c = windowOf (pictureRow pixels w (crop .y + c)) (crop .x) (crop .width)
+cropRow pixels w crop c = windowOf pixelLanes (pictureRow pixelLanes pixels w (crop .y + c)) (crop .x) (crop .width)
 
 abbrev cropPlace : ℕ → Rect → ℕ → ℕ → ℕ
-cropPlace w crop c z = rowBytes w * (crop .y + c) + (rowBytes (crop .x) + z)
+cropPlace w crop c z = rowBytes pixelLanes w * (crop .y + c) + (rowBytes pixelLanes (crop .x) + z)
 
-module _ (source : Dimensions) (crop : Rect) (target : Dimensions) (pixels : List ℕ) (fits : Fits source crop target) (long : length pixels ≡ pictureBytes (source .width) (source .height)) where
-  all-here : pictureBytes (source .width) (source .height) ≤ length pixels
+module _ (source : Dimensions) (crop : Rect) (target : Dimensions) (pixels : List ℕ) (fits : Fits source crop target) (long : length pixels ≡ pictureBytes pixelLanes (source .width) (source .height)) where
+  all-here : pictureBytes pixelLanes (source .width) (source .height) ≤ length pixels
   all-here = omega arith
 
   module _ (c : ℕ) (in-crop : c < crop .height) where
     in-source : crop .y + c < source .height
     in-source = omega (arith, fits .bottom)
 
-    inside : rowBytes (crop .x + crop .width) ≤ length (pictureRow pixels (source .width) (crop .y + c))
-    inside = rw (row-length pixels (source .width) (source .height) (crop .y + c) all-here in-source) (mul-le-mul-left lanes (fits .right))
+    inside : rowBytes pixelLanes (crop .x + crop .width) ≤ length (pictureRow pixelLanes pixels (source .width) (crop .y + c))
+    inside = rw (row-length pixels (source .width) (source .height) (crop .y + c) all-here in-source) (mul-le-mul-left pixelLanes (fits .right))
 
-    part-length : length (cropRow pixels (source .width) crop c) ≡ rowBytes (crop .width)
-    part-length = window-length (pictureRow pixels (source .width) (crop .y + c)) (crop .x) (crop .width) inside
+    part-length : length (cropRow pixels (source .width) crop c) ≡ rowBytes pixelLanes (crop .width)
+    part-length = window-length pixelLanes (pictureRow pixelLanes pixels (source .width) (crop .y + c)) (crop .x) (crop .width) inside
 
-    part-byte : (z : ℕ) → z < rowBytes (crop .width) → getD (cropRow pixels (source .width) crop c) z 0 ≡ getD pixels (cropPlace (source .width) crop c z) 0
+    part-byte : (z : ℕ) → z < rowBytes pixelLanes (crop .width) → getD (cropRow pixels (source .width) crop c) z 0 ≡ getD pixels (cropPlace (source .width) crop c z) 0
     part-byte z l =
-        window-byte (pictureRow pixels (source .width) (crop .y + c)) (crop .x) (crop .width) inside z l
-        ∙ row-byte pixels (source .width) (source .height) (crop .y + c) all-here in-source (rowBytes (crop .x) + z) (omega (arith, fits .right))
+        window-byte pixelLanes (pictureRow pixelLanes pixels (source .width) (crop .y + c)) (crop .x) (crop .width) inside z l
+        ∙ row-byte pixels (source .width) (source .height) (crop .y + c) all-here in-source (rowBytes pixelLanes (crop .x) + z) (omega (arith, fits .right))
 
   -- the first n rows of the crop
-  parts-length : (n : ℕ) → n ≤ crop .height → length (croppedRows pixels (source .width) crop n) ≡ rowBytes (crop .width) * n
+  parts-length : (n : ℕ) → n ≤ crop .height → length (croppedRows pixels (source .width) crop n) ≡ rowBytes pixelLanes (crop .width) * n
   unfolding croppedRows
   parts-length zero le = omega arith
   parts-length (suc n) le =
       omega (arith, length-append (croppedRows pixels (source .width) crop n) (cropRow pixels (source .width) crop n), parts-length n (omega arith), part-length n le)
 
-  parts-byte : (n : ℕ) → n ≤ crop .height → (c z : ℕ) → c < n → z < rowBytes (crop .width)
-      → getD (croppedRows pixels (source .width) crop n) (rowBytes (crop .width) * c + z) 0 ≡ getD pixels (cropPlace (source .width) crop c z) 0
+  parts-byte : (n : ℕ) → n ≤ crop .height → (c z : ℕ) → c < n → z < rowBytes pixelLanes (crop .width)
+      → getD (croppedRows pixels (source .width) crop n) (rowBytes pixelLanes (crop .width) * c + z) 0 ≡ getD pixels (cropPlace (source .width) crop c z) 0
   unfolding croppedRows
   parts-byte zero le c z l u = absurd (omega arith)
   parts-byte (suc n) le c z l u =
       let before : List ℕ = croppedRows pixels (source .width) crop n in
-      let many : length before ≡ rowBytes (crop .width) * n = parts-length n (omega arith) in
+      let many : length before ≡ rowBytes pixelLanes (crop .width) * n = parts-length n (omega arith) in
       ⊎-elim
       (λ e.
-      let at : rowBytes (crop .width) * c + z ≡ length before + z = ap (λ (t : ℕ). rowBytes (crop .width) * t + z) e ∙ omega arith in
+      let at : rowBytes pixelLanes (crop .width) * c + z ≡ length before + z = ap (λ (t : ℕ). rowBytes pixelLanes (crop .width) * t + z) e ∙ omega arith in
       rw at (getD-append-add before (cropRow pixels (source .width) crop n) z 0)
       ∙ part-byte n le z u
       ∙ ap (λ (t : ℕ). getD pixels (cropPlace (source .width) crop t z) 0) (sym e))
       (λ m.
-      List·getD-append before (cropRow pixels (source .width) crop n) 0 (rowBytes (crop .width) * c + z) (omega (arith, mul-le-mul-left (rowBytes (crop .width)) m))
+      List·getD-append before (cropRow pixels (source .width) crop n) 0 (rowBytes pixelLanes (crop .width) * c + z) (omega (arith, mul-le-mul-left (rowBytes pixelLanes (crop .width)) m))
       ∙ parts-byte n (omega arith) c z m u)
       (eq-or-lt-of-le (le-of-suc-le-suc l))
 
-  pub cropped-length : length (cropped source crop pixels) ≡ pictureBytes (crop .width) (crop .height)
+  pub cropped-length : length (cropped source crop pixels) ≡ pictureBytes pixelLanes (crop .width) (crop .height)
   unfolding cropped
   cropped-length = parts-length (crop .height) (omega arith)
 
-  pub cropped-byte : (c z : ℕ) → c < crop .height → z < rowBytes (crop .width)
-      → getD (cropped source crop pixels) (rowBytes (crop .width) * c + z) 0 ≡ getD pixels (rowBytes (source .width) * (crop .y + c) + (rowBytes (crop .x) + z)) 0
+  pub cropped-byte : (c z : ℕ) → c < crop .height → z < rowBytes pixelLanes (crop .width)
+      → getD (cropped source crop pixels) (rowBytes pixelLanes (crop .width) * c + z) 0 ≡ getD pixels (rowBytes pixelLanes (source .width) * (crop .y + c) + (rowBytes pixelLanes (crop .x) + z)) 0
   unfolding cropped
   cropped-byte c z l u = parts-byte (crop .height) (omega arith) c z l u
 
@@ -109,9 +109,9 @@ scaled-cong n m h g p q j y some within below same =
     (λ c l. value-cong (p c) (q c) n m j within (λ i u. same c i (omega (arith, needed-le h g y some below)) u))
 
 -- ---- rows one after another
-pub rowOf-length : (p : Plan) (b : ℕ → ℕ) (y : ℕ) → length (rowOf p b y) ≡ rowBytes (p .target .width)
+pub rowOf-length : (p : Plan) (b : ℕ → ℕ) (y : ℕ) → length (rowOf p b y) ≡ rowBytes (lanesOf p) (p .target .width)
 unfolding rowOf
-rowOf-length p b y = length-tabulate (restoredPlace (p .layout) (scaledLane p b y)) (rowBytes (p .target .width))
+rowOf-length p b y = length-tabulate (restoredPlace (p .layout) (scaledLane p b y)) (rowBytes (lanesOf p) (p .target .width))
 
 pub rowsOf-cong : (p q : Plan) (b d : ℕ → ℕ) (n : ℕ) → ((y : ℕ) → y < n → rowOf p b y ≡ rowOf q d y) → rowsOf p b n ≡ rowsOf q d n
 unfolding rowsOf
@@ -140,16 +140,16 @@ sourceOf pixels i = getD pixels i 0
 abbrev pub croppedOf : Plan → List ℕ → ℕ → ℕ
 croppedOf p pixels i = getD (cropped (p .source) (p .crop) pixels) i 0
 
-module _ (p : Plan) (pixels : List ℕ) (fits : Fits (p .source) (p .crop) (p .target)) (long : length pixels ≡ pictureBytes (p .source .width) (p .source .height)) where
-  same-byte : (c i k : ℕ) → c < p .crop .height → i < p .crop .width → k < lanes
+module _ (p : Plan) (pixels : List ℕ) (fits : Fits (p .source) (p .crop) (p .target)) (long : length pixels ≡ pictureBytes pixelLanes (p .source .width) (p .source .height)) where
+  same-byte : (c i k : ℕ) → c < p .crop .height → i < p .crop .width → k < pixelLanes
       → sourceByte p (sourceOf pixels) c i k ≡ sourceByte (wholePlan p) (croppedOf p pixels) c i k
   same-byte c i k l u v =
       let small = place-lt (p .layout) k v in
-      let at : lanes * (p .crop .x + i) + placeOf (p .layout) k ≡ rowBytes (p .crop .x) + (lanes * i + placeOf (p .layout) k) = omega arith in
+      let at : pixelLanes * (p .crop .x + i) + placeOf (p .layout) k ≡ rowBytes pixelLanes (p .crop .x) + (pixelLanes * i + placeOf (p .layout) k) = omega arith in
       let at-row : 0 + c ≡ c = omega arith in
       let at-column : 0 + i ≡ i = omega arith in
       rw (at, at-row, at-column)
-      (sym (cropped-byte (p .source) (p .crop) (p .target) pixels fits long c (lanes * i + placeOf (p .layout) k) l (omega arith)))
+      (sym (cropped-byte (p .source) (p .crop) (p .target) pixels fits long c (pixelLanes * i + placeOf (p .layout) k) l (omega arith)))
 
   pub matted-same : (k c i : ℕ) → c < p .crop .height → i < p .crop .width
       → mattedByte p (sourceOf pixels) k c i ≡ mattedByte (wholePlan p) (croppedOf p pixels) k c i
@@ -158,20 +158,20 @@ module _ (p : Plan) (pixels : List ℕ) (fits : Fits (p .source) (p .crop) (p .t
       ap (λ (t : ℕ). laneOf (multArgb t false) k)
       (pixel-cong (sourceByte p (sourceOf pixels) c i) (sourceByte (wholePlan p) (croppedOf p pixels) c i) (λ k' v. same-byte c i k' l u v))
 
-  lane-same : (y x : ℕ) → y < p .target .height → x < halfValues (p .target .width)
+  lane-same : (y x : ℕ) → y < p .target .height → x < halfValues (lanesOf p) (p .target .width)
       → scaledLane p (sourceOf pixels) y x ≡ scaledLane (wholePlan p) (croppedOf p pixels) y x
   unfolding scaledLane
   lane-same y x l u =
       scaled-cong (p .crop .width) (p .target .width) (p .crop .height) (p .target .height)
-      (mattedByte p (sourceOf pixels) (x % lanes)) (mattedByte (wholePlan p) (croppedOf p pixels) (x % lanes)) (x / lanes) y
-      (fits .crop-height) (omega arith) l (λ c i a b. matted-same (x % lanes) c i a b)
+      (mattedByte p (sourceOf pixels) (x % pixelLanes)) (mattedByte (wholePlan p) (croppedOf p pixels) (x % pixelLanes)) (x / pixelLanes) y
+      (fits .crop-height) (omega arith) l (λ c i a b. matted-same (x % pixelLanes) c i a b)
 
   pub row-same : (y : ℕ) → y < p .target .height → rowOf p (sourceOf pixels) y ≡ rowOf (wholePlan p) (croppedOf p pixels) y
   unfolding rowOf
   row-same y l =
       let v : ℕ → ℕ = scaledLane p (sourceOf pixels) y in
       let w : ℕ → ℕ = scaledLane (wholePlan p) (croppedOf p pixels) y in
-      tabulate-cong (restoredPlace (p .layout) v) (restoredPlace (p .layout) w) (rowBytes (p .target .width))
+      tabulate-cong (restoredPlace (p .layout) v) (restoredPlace (p .layout) w) (rowBytes (lanesOf p) (p .target .width))
       (λ z u. restored-cong (p .layout) v w (p .target .width) z u (λ x h. lane-same y x l h))
 
   -- the rows handed out, all of them there
@@ -189,7 +189,7 @@ module _ (p : Plan) (pixels : List ℕ) (fits : Fits (p .source) (p .crop) (p .t
         flag ∙ ap (λ (s : List ℕ). hasAlpha (p .layout) s (p .target .width * p .target .height)) crop-then-resize
 
 -- ---- at the end of a list of calls, from what was counted
-module _ (p : Plan) (r : Run) (fits : Fits (p .source) (p .crop) (p .target)) (bytes : length (r .seen .source) ≡ rowBytes (p .source .width) * r .seen .accepted) (handed : length (r .seen .rows) ≡ r .seen .taken) (contents : (y : ℕ) → y < r .seen .taken → getD (r .seen .rows) y [] ≡ rowOf p (λ i. getD (r .seen .source) i 0) y) (at-end : r .seen .accepted ≡ p .source .height) (all-taken : r .seen .taken ≡ R p (p .source .height)) where
+module _ (p : Plan) (r : Run) (fits : Fits (p .source) (p .crop) (p .target)) (bytes : length (r .seen .source) ≡ rowBytes (lanesOf p) (p .source .width) * r .seen .accepted) (handed : length (r .seen .rows) ≡ r .seen .taken) (contents : (y : ℕ) → y < r .seen .taken → getD (r .seen .rows) y [] ≡ rowOf p (λ i. getD (r .seen .source) i 0) y) (at-end : r .seen .accepted ≡ p .source .height) (all-taken : r .seen .taken ≡ R p (p .source .height)) where
   all-rows : r .seen .taken ≡ p .target .height
   all-rows =
       all-taken ∙ rows-all (p .crop .y) (p .crop .height) (p .target .height) (fits .crop-height) (p .source .height) (fits .bottom)

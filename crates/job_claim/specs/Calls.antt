@@ -9,7 +9,7 @@ use lib.ListN.{length, take, drop}
 use Rattle.pixels.specs.Sizes.{rowBytes}
 use Rattle.job.specs.declared.Plan.{Plan}
 use Rattle.job.specs.declared.Job.{Job}
-use Rattle.job.specs.Record.{fresh}
+use Rattle.job.specs.Record.{lanesOf, fresh}
 use Rattle.job.specs.Calls as job
 
 -- An offer with its bytes, or a take with its output buffer; and how many of the work values are lent, all of them or a beginning. Bytes are numbers below
@@ -53,7 +53,7 @@ takeNumber r out lent = job.takeNumber (r .job) (length out) (length (take lent 
 abbrev pub seenOffer : Plan → Seen → List ℕ → ℕ → Seen
 seenOffer p s rows count = record {
   accepted = s .accepted + count;
-  source = s .source ++ take (rowBytes (p .source .width) * count) rows;
+  source = s .source ++ take (rowBytes (lanesOf p) (p .source .width) * count) rows;
   taken = s .taken;
   rows = s .rows;
   flag = s .flag;

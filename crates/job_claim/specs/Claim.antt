@@ -4,13 +4,13 @@ use mathlib.Core.Path.{_≡_}
 use mathlib.Core.List.{List, []}
 use lib.ListN.{length, getD, take}
 use Rattle.arithmetic.specs.Weight.{span}
-use Rattle.pixels.specs.Sizes.{lanes, rowBytes, pictureBytes, workValues, sizeOf}
+use Rattle.pixels.specs.Sizes.{pixelLanes, rowBytes, pictureBytes, workValues, sizeOf}
 use Rattle.pixels.specs.Layout.{placeOf, alphaLane}
 use Rattle.pixels_alpha.specs.Alpha.{hasAlpha}
 use Rattle.pixels_crop.specs.Crop.{cropped}
 use Rattle.rows.specs.Mean.{exactSum, total, Near, Premise}
 use Rattle.job.specs.declared.Plan.{Plan}
-use Rattle.job.specs.Record.{R}
+use Rattle.job.specs.Record.{lanesOf, R}
 use Rattle.job.specs.Calls.{startNumber}
 use Rattle.job_claim.specs.Rows.{mattedByte, rowOf, joined, resized, resizedFlag}
 use Rattle.job_claim.specs.Calls.{Call, Offer, Take, Run, step, run, begun, offerNumber, offerRows, takeNumber, NoneRefused}
@@ -18,13 +18,13 @@ use Rattle.job_claim.specs.Calls.{Call, Offer, Take, Run, step, run, beg
 -- ---- "Buffers have the right length when 3, 4 and 5 don't apply"
 
 pub record RightTake (p : Plan) (r : Run) (out : List ℕ) (lent : ℕ) : Type 0 where
-  pub exact : length out ≡ rowBytes (p .target .width)
-  pub room : workValues (p .target .width) ≤ length (take lent (r .work))
+  pub exact : length out ≡ rowBytes (lanesOf p) (p .target .width)
+  pub room : workValues (lanesOf p) (p .target .width) ≤ length (take lent (r .work))
 
 pub record RightOffer (p : Plan) (r : Run) (rows : List ℕ) (lent : ℕ) : Type 0 where
   pub some : 0 < length rows
-  pub whole : length rows % rowBytes (p .source .width) ≡ 0
-  pub room : workValues (p .target .width) ≤ length (take lent (r .work))
+  pub whole : length rows % rowBytes (lanesOf p) (p .source .width) ≡ 0
+  pub room : workValues (lanesOf p) (p .target .width) ≤ length (take lent (r .work))
 
 -- ---- "Ready is how many takes with buffers of the right length would succeed straight after the list, one after another, before one is turned away"
 abbrev pub Ready : Plan → Run → ℕ → Type 0
@@ -50,12 +50,12 @@ pub record Claim (p : Plan) (r : Run) : Type 0 where
   pub offer-goes : (rows : List ℕ) (lent : ℕ) → RightOffer p r rows lent → r .seen .taken ≡ R p (r .seen .accepted) → r .seen .accepted < p .source .height
       → (offerNumber r rows lent ≡ 0) × (0 < offerRows r rows lent)
   pub offer-count : (rows : List ℕ) (lent : ℕ) → RightOffer p r rows lent → r .seen .taken ≡ R p (r .seen .accepted) → r .seen .accepted < p .source .height
-      → Smallest (R p) (r .seen .accepted) (r .seen .taken) (length rows / rowBytes (p .source .width)) (p .source .height - r .seen .accepted) (offerRows r rows lent)
+      → Smallest (R p) (r .seen .accepted) (r .seen .taken) (length rows / rowBytes (lanesOf p) (p .source .width)) (p .source .height - r .seen .accepted) (offerRows r rows lent)
   pub offer-ready : (rows : List ℕ) (lent : ℕ) → RightOffer p r rows lent → r .seen .taken < R p (r .seen .accepted) → offerNumber r rows lent ≡ 7
   pub offer-all : (rows : List ℕ) (lent : ℕ) → RightOffer p r rows lent → r .seen .taken ≡ R p (r .seen .accepted) → p .source .height ≤ r .seen .accepted
       → offerNumber r rows lent ≡ 8
   -- the counts stay in bounds
-  pub bytes : length (r .seen .source) ≡ rowBytes (p .source .width) * r .seen .accepted
+  pub bytes : length (r .seen .source) ≡ rowBytes (lanesOf p) (p .source .width) * r .seen .accepted
   pub in-source : r .seen .accepted ≤ p .source .height
   pub in-schedule : r .seen .taken ≤ R p (r .seen .accepted)
   -- 4. as many rows were handed out as were taken, row y being the closed form of the accepted bytes, and the flag says whether a taken alpha byte isn't 255
@@ -65,14 +65,14 @@ pub record Claim (p : Plan) (r : Run) : Type 0 where
   -- 5. no taken alpha byte, nor colour byte beside a taken alpha 255, is two or more levels from the exact mean of the matted bytes
   pub near-alpha : Premise (span (p .crop .width) (p .target .width)) (p .crop .height) (p .target .height)
       → (y : ℕ) → y < r .seen .taken → (j : ℕ) → j < p .target .width
-      → Near (getD (getD (r .seen .rows) y []) (lanes * j + placeOf (p .layout) alphaLane) 0)
+      → Near (getD (getD (r .seen .rows) y []) (pixelLanes * j + placeOf (p .layout) alphaLane) 0)
       (exactSum (p .crop .width) (p .target .width) (p .crop .height) (p .target .height) (mattedByte p (λ i. getD (r .seen .source) i 0) alphaLane) j y)
       (total (p .crop .width) (p .target .width) (p .crop .height) (p .target .height))
   pub near-colour : Premise (span (p .crop .width) (p .target .width)) (p .crop .height) (p .target .height)
       → (y : ℕ) → y < r .seen .taken → (j : ℕ) → j < p .target .width
-      → getD (getD (r .seen .rows) y []) (lanes * j + placeOf (p .layout) alphaLane) 0 ≡ 255
+      → getD (getD (r .seen .rows) y []) (pixelLanes * j + placeOf (p .layout) alphaLane) 0 ≡ 255
       → (k : ℕ) → k < alphaLane
-      → Near (getD (getD (r .seen .rows) y []) (lanes * j + placeOf (p .layout) k) 0)
+      → Near (getD (getD (r .seen .rows) y []) (pixelLanes * j + placeOf (p .layout) k) 0)
       (exactSum (p .crop .width) (p .target .width) (p .crop .height) (p .target .height) (mattedByte p (λ i. getD (r .seen .source) i 0) k) j y)
       (total (p .crop .width) (p .target .width) (p .crop .height) (p .target .height))
   -- 6. once all source rows are accepted and R(source height) rows are taken, the taken rows are the pixels, and the flag the flag, of crop then resize
@@ -94,5 +94,5 @@ pub record Demand3 : Type 0 where
   pub every-list : (p : Plan) (work : List ℕ) → startNumber p (length work) ≡ 0 → (calls : List Call) → Claim p (run p (begun p work) calls)
   -- and for every source of the right length there is a list that gets to the end
   pub some-list : (p : Plan) (work : List ℕ) → startNumber p (length work) ≡ 0
-      → (pixels : List ℕ) → length pixels ≡ pictureBytes (p .source .width) (p .source .height)
+      → (pixels : List ℕ) → length pixels ≡ pictureBytes (lanesOf p) (p .source .width) (p .source .height)
       → (calls : List Call) × Reached p work pixels calls

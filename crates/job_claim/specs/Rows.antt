@@ -9,17 +9,17 @@ use Rattle.arithmetic.specs.Matte.{laneOf, pixelOf, multArgb}
 use Rattle.pixels.specs.declared.Dimensions.{Dimensions}
 use Rattle.pixels.specs.declared.Rect.{Rect}
 use Rattle.pixels.specs.declared.PixelLayout.{PixelLayout}
-use Rattle.pixels.specs.Sizes.{lanes, rowBytes, rectOf}
+use Rattle.pixels.specs.Sizes.{pixelLanes, rowBytes, rectOf}
 use Rattle.pixels.specs.Layout.{placeOf}
 use Rattle.pixels.specs.Lanes.{restoredPlace}
 use Rattle.pixels_alpha.specs.Alpha.{hasAlpha}
 use Rattle.rows.specs.Closed.{scaled}
 use Rattle.job.specs.declared.Plan.{Plan}
-use Rattle.job.specs.Record.{planOf}
+use Rattle.job.specs.Record.{lanesOf, planOf}
 
 -- lane k of crop row c, pixel i, as it stands in the source: "rows and columns counted from the crop's corner"
 abbrev pub sourceByte : Plan → (ℕ → ℕ) → ℕ → ℕ → ℕ → ℕ
-sourceByte p b c i k = b (rowBytes (p .source .width) * (p .crop .y + c) + (lanes * (p .crop .x + i) + placeOf (p .layout) k))
+sourceByte p b c i k = b (rowBytes (lanesOf p) (p .source .width) * (p .crop .y + c) + (lanesOf p * (p .crop .x + i) + placeOf (p .layout) k))
 
 -- "The matted bytes are the accepted rows inside the crop after mult_argb (matte)"
 unfoldable pub mattedByte : Plan → (ℕ → ℕ) → ℕ → ℕ → ℕ → ℕ
@@ -28,11 +28,11 @@ mattedByte p b k c i = laneOf (multArgb (pixelOf (sourceByte p b c i)) false) k
 -- the byte at place x of output row y, before it is restored: lane x % lanes, column x / lanes
 unfoldable pub scaledLane : Plan → (ℕ → ℕ) → ℕ → ℕ → ℕ
 scaledLane p b y x =
-    scaled (p .crop .width) (p .target .width) (p .crop .height) (p .target .height) (mattedByte p b (x % lanes)) (x / lanes) y
+    scaled (p .crop .width) (p .target .width) (p .crop .height) (p .target .height) (mattedByte p b (x % lanesOf p)) (x / lanesOf p) y
 
 -- output row y, "restored and packed"
 unfoldable pub rowOf : Plan → (ℕ → ℕ) → ℕ → List ℕ
-rowOf p b y = tabulate (restoredPlace (p .layout) (scaledLane p b y)) (rowBytes (p .target .width))
+rowOf p b y = tabulate (restoredPlace (p .layout) (scaledLane p b y)) (rowBytes (lanesOf p) (p .target .width))
 
 -- rows one after another
 unfoldable pub joined : List (List ℕ) → List ℕ

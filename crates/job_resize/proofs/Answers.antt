@@ -17,7 +17,7 @@ use Rattle.pixels.specs.declared.Refusal.the-variants.{PixelBufferMismatch, Out
 use Rattle.pixels.specs.declared.Checked.{Checked}
 use Rattle.pixels.specs.declared.Checked.the-variants as checked
 use Rattle.pixels.specs.Refusals.{number, refusedIf, firstOf, checkedNumber, flagIf, bufferIf}
-use Rattle.pixels.specs.Sizes.{halfValues, workValues, pictureBytes, sizesNumber, Fits}
+use Rattle.pixels.specs.Sizes.{pixelLanes, halfValues, workValues, pictureBytes, sizesNumber, Fits}
 use Rattle.pixels.proofs.Numbers.{number-pos}
 use Rattle.pixels.proofs.Fitting.{fits-of}
 use Rattle.pixels.proofs.Causes.{refused-yes, refused-no, first-passes, first-stops, not-false}
@@ -65,32 +65,32 @@ module _ (source : Dimensions) (layout : PixelLayout) (target : Dimensions) (pix
     pub sides : Fits source (fullCrop source) target
     sides = fits-of source (fullCrop source) target fit
 
-    pub pixels-refused : (b : Bool) → b ≡ not (eqb (length pixels) (pictureBytes (source .width) (source .height))) → b ≡ true → Refuses PixelBufferMismatch
+    pub pixels-refused : (b : Bool) → b ≡ not (eqb (length pixels) (pictureBytes pixelLanes (source .width) (source .height))) → b ≡ true → Refuses PixelBufferMismatch
     unfolding resizeNumber
     pixels-refused b is t = because PixelBufferMismatch (first-passes _ _ fit ∙ first-stops PixelBufferMismatch _ _ (refused-yes _ PixelBufferMismatch (sym is ∙ t)))
 
-    module _ (b : Bool) (is : b ≡ not (eqb (length pixels) (pictureBytes (source .width) (source .height)))) (t : b ≡ false) where
-      pub out-refused : (c : Bool) → c ≡ not (eqb (length out) (pictureBytes (target .width) (target .height))) → c ≡ true → Refuses OutputLength
+    module _ (b : Bool) (is : b ≡ not (eqb (length pixels) (pictureBytes pixelLanes (source .width) (source .height)))) (t : b ≡ false) where
+      pub out-refused : (c : Bool) → c ≡ not (eqb (length out) (pictureBytes pixelLanes (target .width) (target .height))) → c ≡ true → Refuses OutputLength
       unfolding resizeNumber
       out-refused c also u =
           because OutputLength (first-passes _ _ fit ∙ first-passes _ _ (refused-no _ PixelBufferMismatch (sym is ∙ t)) ∙ first-stops OutputLength _ _ (refused-yes _ OutputLength (sym also ∙ u)))
 
-      module _ (c : Bool) (also : c ≡ not (eqb (length out) (pictureBytes (target .width) (target .height)))) (u : c ≡ false) where
-        past : n ≡ refusedIf (ltb (length work) (workValues (target .width))) WorkLength
+      module _ (c : Bool) (also : c ≡ not (eqb (length out) (pictureBytes pixelLanes (target .width) (target .height)))) (u : c ≡ false) where
+        past : n ≡ refusedIf (ltb (length work) (workValues pixelLanes (target .width))) WorkLength
         unfolding resizeNumber
         past = first-passes _ _ fit ∙ first-passes _ _ (refused-no _ PixelBufferMismatch (sym is ∙ t)) ∙ first-passes _ _ (refused-no _ OutputLength (sym also ∙ u))
 
-        pub work-refused : length work < workValues (target .width) → Refuses WorkLength
-        work-refused h = because WorkLength (past ∙ refused-yes _ WorkLength (lt-ltb (length work) (workValues (target .width)) h))
+        pub work-refused : length work < workValues pixelLanes (target .width) → Refuses WorkLength
+        work-refused h = because WorkLength (past ∙ refused-yes _ WorkLength (lt-ltb (length work) (workValues pixelLanes (target .width)) h))
 
-        pub passes : workValues (target .width) ≤ length work → n ≡ 0
-        passes h = past ∙ refused-no _ WorkLength (le-ltb (length work) (workValues (target .width)) h)
+        pub passes : workValues pixelLanes (target .width) ≤ length work → n ≡ 0
+        passes h = past ∙ refused-no _ WorkLength (le-ltb (length work) (workValues pixelLanes (target .width)) h)
 
         -- ---- the job
-        module _ (room : workValues (target .width) ≤ length work) (crop : Rect) (full : crop ≡ fullCrop source) where
+        module _ (room : workValues pixelLanes (target .width) ≤ length work) (crop : Rect) (full : crop ≡ fullCrop source) where
           start-passes : startNumber (planOf source layout crop target) (length work) ≡ 0
           unfolding startNumber
-          start-passes = rw full (first-passes _ _ fit ∙ refused-no _ WorkLength (le-ltb (length work) (workValues (target .width)) room))
+          start-passes = rw full (first-passes _ _ fit ∙ refused-no _ WorkLength (le-ltb (length work) (workValues pixelLanes (target .width)) room))
 
           pub never : (why : Refusal) (r : Started) → startedNumber r ≡ startNumber (planOf source layout crop target) (length work) → r ≡ started.Refused why → ⊥
           never why r told e = omega (arith, number-pos why, sym (ap startedNumber e) ∙ told ∙ start-passes)
@@ -103,8 +103,8 @@ module _ (source : Dimensions) (layout : PixelLayout) (target : Dimensions) (pix
             unfolding startWork
             begun-cleared = begun-is ∙ simp (eq-eqb _ 0 start-passes)
 
-            begun-rest : drop (workValues (target .width)) begun ≡ drop (workValues (target .width)) work
-            begun-rest = ap (drop (workValues (target .width))) begun-cleared ∙ drop-at (replicate (workValues (target .width)) 0) (drop (workValues (target .width)) work) (workValues (target .width)) (length-replicate (workValues (target .width)) 0)
+            begun-rest : drop (workValues pixelLanes (target .width)) begun ≡ drop (workValues pixelLanes (target .width)) work
+            begun-rest = ap (drop (workValues pixelLanes (target .width))) begun-cleared ∙ drop-at (replicate (workValues pixelLanes (target .width)) 0) (drop (workValues pixelLanes (target .width)) work) (workValues pixelLanes (target .width)) (length-replicate (workValues pixelLanes (target .width)) 0)
 
             pub job-asked : Asked job pixels out begun
             job-asked =
@@ -115,7 +115,7 @@ module _ (source : Dimensions) (layout : PixelLayout) (target : Dimensions) (pix
                   pixels-long = eqb-true _ _ (not-false _ (sym is ∙ t));
                   out-long = eqb-true _ _ (not-false _ (sym also ∙ u));
                   room = rw (begun-cleared, length-append, length-replicate) (omega arith);
-                  clear = begun-cleared ∙ ap (λ (s : List ℕ). replicate (workValues (target .width)) 0 ++ s) (sym begun-rest);
+                  clear = begun-cleared ∙ ap (λ (s : List ℕ). replicate (workValues pixelLanes (target .width)) 0 ++ s) (sym begun-rest);
                 })
 
             pub finishes : (flag : Bool) (out' work' : List ℕ) → Driven (job .plan) pixels begun flag out' work'
@@ -126,4 +126,4 @@ module _ (source : Dimensions) (layout : PixelLayout) (target : Dimensions) (pix
                 let g : Driven p pixels begun flag out' work' = subst (λ (j : Job). Driven (j .plan) pixels begun flag out' work') job-is d in
                 accepted n (resizedFlag source layout target pixels) flag (resized source layout target pixels) out' out (resizedWork source layout target pixels work) work' work (passes room)
                 (g .flag-is) (g .out-is)
-                (g .work-is ∙ ap (λ (s : List ℕ). tabulate (lastFirst p (λ i. getD pixels i 0)) (halfValues (target .width)) ++ (tabulate (lastSecond p (λ i. getD pixels i 0)) (halfValues (target .width)) ++ s)) begun-rest)
+                (g .work-is ∙ ap (λ (s : List ℕ). tabulate (lastFirst p (λ i. getD pixels i 0)) (halfValues pixelLanes (target .width)) ++ (tabulate (lastSecond p (λ i. getD pixels i 0)) (halfValues pixelLanes (target .width)) ++ s)) begun-rest)

@@ -20,7 +20,7 @@ use Rattle.arithmetic.specs.Quotient.{ceil}
 use Rattle.arithmetic.specs.Sum.{sum}
 use Rattle.pixels.specs.declared.Dimensions.{Dimensions}
 use Rattle.pixels.specs.declared.PixelLayout.{PixelLayout}
-use Rattle.pixels.specs.Sizes.{lanes, rowBytes, halfValues, workValues, pictureBytes, Fits}
+use Rattle.pixels.specs.Sizes.{pixelLanes, rowBytes, halfValues, workValues, pictureBytes, Fits}
 use Rattle.pixels_alpha.specs.Alpha.{hasAlpha}
 use Rattle.rows_schedule.specs.Schedule.{used, made, needed, since}
 use Rattle.rows_schedule.proofs.Crop.{rows-most}
@@ -32,7 +32,7 @@ use Rattle.rows_laws.proofs.Held.{Held, share-none}
 use Rattle.rows_laws.proofs.WorkRows.{parity, half-even, half-odd}
 use Rattle.job.specs.declared.Plan.{Plan}
 use Rattle.job.specs.declared.Job.{Job}
-use Rattle.job.specs.Record.{R, Rules}
+use Rattle.job.specs.Record.{lanesOf, R, Rules}
 use Rattle.job_claim.specs.Rows.{rowsOf, resizePlan, resized, resizedFlag}
 use Rattle.job_claim.proofs.Reading.{cropValue}
 use Rattle.job_resize.specs.Resize.{rowValueAt, lastFirst, lastSecond, resizedWork}
@@ -79,12 +79,12 @@ halves w work room =
     sym (take-append-drop w work) ∙ ap₂ _++_ first (sym (take-append-drop w (drop w work)) ∙ ap₂ _++_ second (drop-drop w w work))
 
 -- ---- the halves of the end
-module _ (p : Plan) (b : ℕ → ℕ) (work : List ℕ) (ph : 0 < p .crop .height) (pg : 0 < p .target .height) (held : Held (p .crop .height) (p .target .height) (halfValues (p .target .width)) (cropValue p b) (p .crop .height) (p .target .height) work) where
+module _ (p : Plan) (b : ℕ → ℕ) (work : List ℕ) (ph : 0 < p .crop .height) (pg : 0 < p .target .height) (held : Held (p .crop .height) (p .target .height) (halfValues (lanesOf p) (p .target .width)) (cropValue p b) (p .crop .height) (p .target .height) work) where
   value-is : (x : ℕ) → (λ c. cropValue p b c x) ≡ rowValueAt p b x
   unfolding cropValue rowValueAt
   value-is x = refl
 
-  pub first-is : (x : ℕ) → x < halfValues (p .target .width) → getD work x 0 ≡ lastFirst p b x
+  pub first-is : (x : ℕ) → x < halfValues (lanesOf p) (p .target .width) → getD work x 0 ≡ lastFirst p b x
   unfolding lastFirst
   first-is x l = by (le-or-lt (p .target .height) (p .crop .height))
     where
@@ -98,37 +98,37 @@ module _ (p : Plan) (b : ℕ → ℕ) (work : List ℕ) (ph : 0 < p .crop .heigh
           or : (p .crop .height % 2 ≡ 0) ⊎ (p .crop .height % 2 ≡ 1) → getD work x 0 ≡ newest (rowValueAt p b x) (cond (eqb (p .crop .height % 2) 0) (p .crop .height) (p .crop .height - 1))
           or (inl e) =
               let o : suc (p .crop .height) % 2 ≡ 1 = omega arith in
-              let n : getD work (halfOf (halfValues (p .target .width)) (suc (p .crop .height)) + x) 0 ≡ newest (λ c. cropValue p b c x) (p .crop .height) = held .newer m x l in
+              let n : getD work (halfOf (halfValues (lanesOf p) (p .target .width)) (suc (p .crop .height)) + x) 0 ≡ newest (λ c. cropValue p b c x) (p .crop .height) = held .newer m x l in
               simp (eq-eqb (p .crop .height % 2) 0 e)
-              (sym (ap (λ (t : ℕ). getD work t 0) (ap (λ (t : ℕ). t + x) (half-odd (halfValues (p .target .width)) (suc (p .crop .height)) o) ∙ zero-add x)) ∙ n ∙ ap (λ (f : ℕ → ℕ). newest f (p .crop .height)) (value-is x))
+              (sym (ap (λ (t : ℕ). getD work t 0) (ap (λ (t : ℕ). t + x) (half-odd (halfValues (lanesOf p) (p .target .width)) (suc (p .crop .height)) o) ∙ zero-add x)) ∙ n ∙ ap (λ (f : ℕ → ℕ). newest f (p .crop .height)) (value-is x))
           or (inr e) =
-              let n : getD work (halfOf (halfValues (p .target .width)) (p .crop .height) + x) 0 ≡ newest (λ c. cropValue p b c x) (p .crop .height - 1) = held .older m x l in
+              let n : getD work (halfOf (halfValues (lanesOf p) (p .target .width)) (p .crop .height) + x) 0 ≡ newest (λ c. cropValue p b c x) (p .crop .height - 1) = held .older m x l in
               simp (ne-eqb (p .crop .height % 2) 0 (λ z. omega arith))
-              (sym (ap (λ (t : ℕ). getD work t 0) (ap (λ (t : ℕ). t + x) (half-odd (halfValues (p .target .width)) (p .crop .height) e) ∙ zero-add x)) ∙ n ∙ ap (λ (f : ℕ → ℕ). newest f (p .crop .height - 1)) (value-is x))
+              (sym (ap (λ (t : ℕ). getD work t 0) (ap (λ (t : ℕ). t + x) (half-odd (halfValues (lanesOf p) (p .target .width)) (p .crop .height) e) ∙ zero-add x)) ∙ n ∙ ap (λ (f : ℕ → ℕ). newest f (p .crop .height - 1)) (value-is x))
 
-  pub second-is : (x : ℕ) → x < halfValues (p .target .width) → getD work (halfValues (p .target .width) + x) 0 ≡ lastSecond p b x
+  pub second-is : (x : ℕ) → x < halfValues (lanesOf p) (p .target .width) → getD work (halfValues (lanesOf p) (p .target .width) + x) 0 ≡ lastSecond p b x
   unfolding lastSecond
   second-is x l = by (le-or-lt (p .target .height) (p .crop .height))
     where
-      by : (p .target .height ≤ p .crop .height) ⊎ (p .crop .height < p .target .height) → getD work (halfValues (p .target .width) + x) 0 ≡ cond (leb (p .target .height) (p .crop .height)) (newest (rowValueAt p b x) (p .crop .height)) (newest (rowValueAt p b x) (cond (eqb (p .crop .height % 2) 0) (p .crop .height - 1) (p .crop .height)))
+      by : (p .target .height ≤ p .crop .height) ⊎ (p .crop .height < p .target .height) → getD work (halfValues (lanesOf p) (p .target .width) + x) 0 ≡ cond (leb (p .target .height) (p .crop .height)) (newest (rowValueAt p b x) (p .crop .height)) (newest (rowValueAt p b x) (cond (eqb (p .crop .height % 2) 0) (p .crop .height - 1) (p .crop .height)))
       by (inl m) = simp (le-leb (p .target .height) (p .crop .height) m) (held .second m x l ∙ ap (λ (f : ℕ → ℕ). newest f (p .crop .height)) (value-is x))
       by (inr m) = simp (lt-leb (p .target .height) (p .crop .height) m) (or (parity (p .crop .height)))
         where
-          or : (p .crop .height % 2 ≡ 0) ⊎ (p .crop .height % 2 ≡ 1) → getD work (halfValues (p .target .width) + x) 0 ≡ newest (rowValueAt p b x) (cond (eqb (p .crop .height % 2) 0) (p .crop .height - 1) (p .crop .height))
+          or : (p .crop .height % 2 ≡ 0) ⊎ (p .crop .height % 2 ≡ 1) → getD work (halfValues (lanesOf p) (p .target .width) + x) 0 ≡ newest (rowValueAt p b x) (cond (eqb (p .crop .height % 2) 0) (p .crop .height - 1) (p .crop .height))
           or (inl e) =
-              let n : getD work (halfOf (halfValues (p .target .width)) (p .crop .height) + x) 0 ≡ newest (λ c. cropValue p b c x) (p .crop .height - 1) = held .older m x l in
+              let n : getD work (halfOf (halfValues (lanesOf p) (p .target .width)) (p .crop .height) + x) 0 ≡ newest (λ c. cropValue p b c x) (p .crop .height - 1) = held .older m x l in
               simp (eq-eqb (p .crop .height % 2) 0 e)
-              (sym (ap (λ (t : ℕ). getD work (t + x) 0) (half-even (halfValues (p .target .width)) (p .crop .height) e)) ∙ n ∙ ap (λ (f : ℕ → ℕ). newest f (p .crop .height - 1)) (value-is x))
+              (sym (ap (λ (t : ℕ). getD work (t + x) 0) (half-even (halfValues (lanesOf p) (p .target .width)) (p .crop .height) e)) ∙ n ∙ ap (λ (f : ℕ → ℕ). newest f (p .crop .height - 1)) (value-is x))
           or (inr e) =
               let o : suc (p .crop .height) % 2 ≡ 0 = omega arith in
-              let n : getD work (halfOf (halfValues (p .target .width)) (suc (p .crop .height)) + x) 0 ≡ newest (λ c. cropValue p b c x) (p .crop .height) = held .newer m x l in
+              let n : getD work (halfOf (halfValues (lanesOf p) (p .target .width)) (suc (p .crop .height)) + x) 0 ≡ newest (λ c. cropValue p b c x) (p .crop .height) = held .newer m x l in
               simp (ne-eqb (p .crop .height % 2) 0 (λ z. omega arith))
-              (sym (ap (λ (t : ℕ). getD work (t + x) 0) (half-even (halfValues (p .target .width)) (suc (p .crop .height)) o)) ∙ n ∙ ap (λ (f : ℕ → ℕ). newest f (p .crop .height)) (value-is x))
+              (sym (ap (λ (t : ℕ). getD work (t + x) 0) (half-even (halfValues (lanesOf p) (p .target .width)) (suc (p .crop .height)) o)) ∙ n ∙ ap (λ (f : ℕ → ℕ). newest f (p .crop .height)) (value-is x))
 
-  pub work-is : tabulate (λ x. getD work x 0) (halfValues (p .target .width)) ++ (tabulate (λ x. getD work (halfValues (p .target .width) + x) 0) (halfValues (p .target .width)) ++ drop (halfValues (p .target .width) + halfValues (p .target .width)) work) ≡ tabulate (lastFirst p b) (halfValues (p .target .width)) ++ (tabulate (lastSecond p b) (halfValues (p .target .width)) ++ drop (halfValues (p .target .width) + halfValues (p .target .width)) work)
+  pub work-is : tabulate (λ x. getD work x 0) (halfValues (lanesOf p) (p .target .width)) ++ (tabulate (λ x. getD work (halfValues (lanesOf p) (p .target .width) + x) 0) (halfValues (lanesOf p) (p .target .width)) ++ drop (halfValues (lanesOf p) (p .target .width) + halfValues (lanesOf p) (p .target .width)) work) ≡ tabulate (lastFirst p b) (halfValues (lanesOf p) (p .target .width)) ++ (tabulate (lastSecond p b) (halfValues (lanesOf p) (p .target .width)) ++ drop (halfValues (lanesOf p) (p .target .width) + halfValues (lanesOf p) (p .target .width)) work)
   work-is =
-      ap₂ _++_ (tabulate-cong _ _ (halfValues (p .target .width)) first-is)
-      (ap (λ (s : List ℕ). s ++ drop (halfValues (p .target .width) + halfValues (p .target .width)) work) (tabulate-cong _ _ (halfValues (p .target .width)) second-is))
+      ap₂ _++_ (tabulate-cong _ _ (halfValues (lanesOf p) (p .target .width)) first-is)
+      (ap (λ (s : List ℕ). s ++ drop (halfValues (lanesOf p) (p .target .width) + halfValues (lanesOf p) (p .target .width)) work) (tabulate-cong _ _ (halfValues (lanesOf p) (p .target .width)) second-is))
 
 -- ---- the end, all rows taken
 module _ (p : Plan) (pixels out₀ work₀ : List ℕ) (j : Job) (out work : List ℕ) (g : Going p pixels out₀ work₀ j out work) (all : j .plan .target .height ≤ j .taken) where
@@ -148,22 +148,22 @@ module _ (p : Plan) (pixels out₀ work₀ : List ℕ) (j : Job) (out work : Lis
   pub out-end : out ≡ rowsOf p (bytesOf pixels) (p .target .height)
   out-end =
       subst (λ (q : Plan). out ≡ rowsOf q (bytesOf pixels) (q .target .height)) (g .plan-is)
-      (g .made ∙ rw (taken-all, drop-of-length-le out₀ {i = rowBytes (j .plan .target .width) * j .plan .target .height} (omega (arith, g .out-long))) (append-nil (rowsOf (j .plan) (bytesOf pixels) (j .plan .target .height))))
+      (g .made ∙ rw (taken-all, drop-of-length-le out₀ {i = rowBytes (lanesOf (j .plan)) (j .plan .target .width) * j .plan .target .height} (omega (arith, g .out-long))) (append-nil (rowsOf (j .plan) (bytesOf pixels) (j .plan .target .height))))
 
   pub flag-end : j .flag ≡ hasAlpha (p .layout) (rowsOf p (bytesOf pixels) (p .target .height)) (p .target .width * p .target .height)
   flag-end =
       subst (λ (q : Plan). j .flag ≡ hasAlpha (q .layout) (rowsOf q (bytesOf pixels) (q .target .height)) (q .target .width * q .target .height)) (g .plan-is)
       (g .flagged ∙ ap (λ (t : ℕ). hasAlpha (j .plan .layout) (rowsOf (j .plan) (bytesOf pixels) t) (j .plan .target .width * t)) taken-all)
 
-  held-end : Held (j .plan .crop .height) (j .plan .target .height) (halfValues (j .plan .target .width)) (cropValue (j .plan) (bytesOf pixels)) (j .plan .crop .height) (j .plan .target .height) work
-  held-end = subst (λ (t : ℕ). Held (j .plan .crop .height) (j .plan .target .height) (halfValues (j .plan .target .width)) (cropValue (j .plan) (bytesOf pixels)) (j .plan .crop .height) t work) taken-all
-      (subst (λ (u : ℕ). Held (j .plan .crop .height) (j .plan .target .height) (halfValues (j .plan .target .width)) (cropValue (j .plan) (bytesOf pixels)) u (j .taken) work) used-all (g .held))
+  held-end : Held (j .plan .crop .height) (j .plan .target .height) (halfValues (lanesOf (j .plan)) (j .plan .target .width)) (cropValue (j .plan) (bytesOf pixels)) (j .plan .crop .height) (j .plan .target .height) work
+  held-end = subst (λ (t : ℕ). Held (j .plan .crop .height) (j .plan .target .height) (halfValues (lanesOf (j .plan)) (j .plan .target .width)) (cropValue (j .plan) (bytesOf pixels)) (j .plan .crop .height) t work) taken-all
+      (subst (λ (u : ℕ). Held (j .plan .crop .height) (j .plan .target .height) (halfValues (lanesOf (j .plan)) (j .plan .target .width)) (cropValue (j .plan) (bytesOf pixels)) u (j .taken) work) used-all (g .held))
 
-  pub work-end : work ≡ tabulate (lastFirst p (bytesOf pixels)) (halfValues (p .target .width)) ++ (tabulate (lastSecond p (bytesOf pixels)) (halfValues (p .target .width)) ++ drop (workValues (p .target .width)) work₀)
+  pub work-end : work ≡ tabulate (lastFirst p (bytesOf pixels)) (halfValues (lanesOf p) (p .target .width)) ++ (tabulate (lastSecond p (bytesOf pixels)) (halfValues (lanesOf p) (p .target .width)) ++ drop (workValues (lanesOf p) (p .target .width)) work₀)
   work-end =
-      let w : ℕ = halfValues (j .plan .target .width) in
-      let both : w + w ≡ workValues (j .plan .target .width) = omega arith in
-      subst (λ (q : Plan). work ≡ tabulate (lastFirst q (bytesOf pixels)) (halfValues (q .target .width)) ++ (tabulate (lastSecond q (bytesOf pixels)) (halfValues (q .target .width)) ++ drop (workValues (q .target .width)) work₀)) (g .plan-is)
+      let w : ℕ = halfValues (lanesOf (j .plan)) (j .plan .target .width) in
+      let both : w + w ≡ workValues (lanesOf (j .plan)) (j .plan .target .width) = omega arith in
+      subst (λ (q : Plan). work ≡ tabulate (lastFirst q (bytesOf pixels)) (halfValues (lanesOf q) (q .target .width)) ++ (tabulate (lastSecond q (bytesOf pixels)) (halfValues (lanesOf q) (q .target .width)) ++ drop (workValues (lanesOf q) (q .target .width)) work₀)) (g .plan-is)
       (halves w work (omega (arith, g .room))
       ∙ work-is (j .plan) (bytesOf pixels) work (g .rules .sizes .crop-height) (g .rules .sizes .target-height .some) held-end
       ∙ ap (λ (s : List ℕ). tabulate (lastFirst (j .plan) (bytesOf pixels)) w ++ (tabulate (lastSecond (j .plan) (bytesOf pixels)) w ++ s)) (ap (λ (t : ℕ). drop t work) both ∙ g .rest))

@@ -11,7 +11,7 @@ use native.Mathlib.Numerals.{add-one}
 use lib.ListN.{length, getD, take, drop, replicate, length-append, length-drop, length-replicate}
 use lib.Seq.{getD-drop, take-at, drop-at, drop-drop, drop-append-add}
 use Rattle.arithmetic.proofs.Orders.{le-or-lt}
-use Rattle.pixels.specs.Sizes.{rowBytes, halfValues, workValues, pictureBytes, Fits}
+use Rattle.pixels.specs.Sizes.{pixelLanes, rowBytes, halfValues, workValues, pictureBytes, Fits}
 use Rattle.pixels_alpha.specs.Alpha.{hasAlpha}
 use Rattle.pixels_crop.specs.Crop.{pictureRow}
 use Rattle.rows_schedule.specs.Schedule.{used}
@@ -21,7 +21,7 @@ use Rattle.rows_laws.proofs.Held.{held-start}
 use Rattle.rows_laws.proofs.WorkRows.{rowIn-rest, rowLeft-rest}
 use Rattle.job.specs.declared.Plan.{Plan}
 use Rattle.job.specs.declared.Job.{Job}
-use Rattle.job.specs.Record.{R, Rules, fresh}
+use Rattle.job.specs.Record.{lanesOf, R, Rules, fresh}
 use Rattle.job.specs.Calls.{count, cleared, rowAccepted, valuesOf, fed, offerNumber, offerJob, offerWork, moreAccepted, takeNumber, takeJob, takeOut, takeWork, moreTaken, rowTaken, workTaken}
 use Rattle.job.proofs.Views.{WholeRows, OfferWent, offer-went, offer-goes, TakeWent, take-went, take-goes}
 use Rattle.job_claim.specs.Rows.{rowOf, rowsOf}
@@ -37,7 +37,7 @@ abbrev pub bytesOf : List ℕ → ℕ → ℕ
 bytesOf pixels i = getD pixels i 0
 
 -- ---- rows one after another
-pub rowsOf-length : (p : Plan) (b : ℕ → ℕ) (n : ℕ) → length (rowsOf p b n) ≡ rowBytes (p .target .width) * n
+pub rowsOf-length : (p : Plan) (b : ℕ → ℕ) (n : ℕ) → length (rowsOf p b n) ≡ rowBytes (lanesOf p) (p .target .width) * n
 unfolding rowsOf
 rowsOf-length p b zero = omega arith
 rowsOf-length p b (suc n) = omega (arith, length-append (rowsOf p b n) (rowOf p b n), rowsOf-length p b n, rowOf-length p b n)
@@ -50,59 +50,59 @@ rowsOf-flag p b n =
 
 -- ---- what is beyond the two halves stays
 module _ (p : Plan) where
-  two-halves : workValues (p .target .width) ≡ halfValues (p .target .width) + halfValues (p .target .width)
+  two-halves : workValues (lanesOf p) (p .target .width) ≡ halfValues (lanesOf p) (p .target .width) + halfValues (lanesOf p) (p .target .width)
   two-halves = omega arith
 
-  row-rest : (fits : Fits (p .source) (p .crop) (p .target)) (row : List ℕ) (s : ℕ) (work : List ℕ) → workValues (p .target .width) ≤ length work
-      → drop (workValues (p .target .width)) (rowAccepted p row s work) ≡ drop (workValues (p .target .width)) work
+  row-rest : (fits : Fits (p .source) (p .crop) (p .target)) (row : List ℕ) (s : ℕ) (work : List ℕ) → workValues (lanesOf p) (p .target .width) ≤ length work
+      → drop (workValues (lanesOf p) (p .target .width)) (rowAccepted p row s work) ≡ drop (workValues (lanesOf p) (p .target .width)) work
   row-rest fits row s work room = by (place (p .crop .y) (p .crop .height) s)
     where
-      by : Place (p .crop .y) (p .crop .height) s → drop (workValues (p .target .width)) (rowAccepted p row s work) ≡ drop (workValues (p .target .width)) work
+      by : Place (p .crop .y) (p .crop .height) s → drop (workValues (lanesOf p) (p .target .width)) (rowAccepted p row s work) ≡ drop (workValues (lanesOf p) (p .target .width)) work
       by (within a b) =
           rw (row-in p fits row s work a b, two-halves)
-          (rowIn-rest (p .crop .height) (p .target .height) (halfValues (p .target .width)) (s - p .crop .y) (valuesOf p row) work (omega arith))
-      by (beside e w) = ap (drop (workValues (p .target .width))) (row-beside p fits row s work w)
+          (rowIn-rest (p .crop .height) (p .target .height) (halfValues (lanesOf p) (p .target .width)) (s - p .crop .y) (valuesOf p row) work (omega arith))
+      by (beside e w) = ap (drop (workValues (lanesOf p) (p .target .width))) (row-beside p fits row s work w)
 
-  pub fed-rest : (fits : Fits (p .source) (p .crop) (p .target)) (rows : List ℕ) (k c : ℕ) (work : List ℕ) → workValues (p .target .width) ≤ length work
-      → drop (workValues (p .target .width)) (fed p rows k c work) ≡ drop (workValues (p .target .width)) work
+  pub fed-rest : (fits : Fits (p .source) (p .crop) (p .target)) (rows : List ℕ) (k c : ℕ) (work : List ℕ) → workValues (lanesOf p) (p .target .width) ≤ length work
+      → drop (workValues (lanesOf p) (p .target .width)) (fed p rows k c work) ≡ drop (workValues (lanesOf p) (p .target .width)) work
   unfolding fed
   fed-rest fits rows k zero work room = refl
   fed-rest fits rows k (suc c) work room =
-      row-rest fits (pictureRow rows (p .source .width) c) (k + c) (fed p rows k c work) (omega (arith, fed-length p fits rows k c work room)) ∙ fed-rest fits rows k c work room
+      row-rest fits (pictureRow pixelLanes rows (p .source .width) c) (k + c) (fed p rows k c work) (omega (arith, fed-length p fits rows k c work room)) ∙ fed-rest fits rows k c work room
 
-pub taken-rest : (j : Job) (work : List ℕ) → drop (workValues (j .plan .target .width)) (workTaken j work) ≡ drop (workValues (j .plan .target .width)) work
+pub taken-rest : (j : Job) (work : List ℕ) → drop (workValues (lanesOf (j .plan)) (j .plan .target .width)) (workTaken j work) ≡ drop (workValues (lanesOf (j .plan)) (j .plan .target .width)) work
 unfolding workTaken
-taken-rest j work = rw (two-halves (j .plan)) (rowLeft-rest _ _ _ _ _ _ work (halfValues (j .plan .target .width)))
+taken-rest j work = rw (two-halves (j .plan)) (rowLeft-rest _ _ _ _ _ _ work (halfValues (lanesOf (j .plan)) (j .plan .target .width)))
 
 -- ---- the job under way: the picture's pixels, the output and the work values as they were lent, and as they are
 pub record Going (p : Plan) (pixels out₀ work₀ : List ℕ) (j : Job) (out work : List ℕ) : Type 0 where
   pub plan-is : j .plan ≡ p
   pub rules : Rules j
-  pub pixels-long : length pixels ≡ pictureBytes (j .plan .source .width) (j .plan .source .height)
-  pub out-long : length out₀ ≡ pictureBytes (j .plan .target .width) (j .plan .target .height)
-  pub room : workValues (j .plan .target .width) ≤ length work
+  pub pixels-long : length pixels ≡ pictureBytes pixelLanes (j .plan .source .width) (j .plan .source .height)
+  pub out-long : length out₀ ≡ pictureBytes pixelLanes (j .plan .target .width) (j .plan .target .height)
+  pub room : workValues (lanesOf (j .plan)) (j .plan .target .width) ≤ length work
   pub held : Holds (j .plan) (bytesOf pixels) (j .accepted) (j .taken) work
-  pub made : out ≡ rowsOf (j .plan) (bytesOf pixels) (j .taken) ++ drop (rowBytes (j .plan .target .width) * j .taken) out₀
+  pub made : out ≡ rowsOf (j .plan) (bytesOf pixels) (j .taken) ++ drop (rowBytes (lanesOf (j .plan)) (j .plan .target .width) * j .taken) out₀
   pub flagged : j .flag ≡ hasAlpha (j .plan .layout) (rowsOf (j .plan) (bytesOf pixels) (j .taken)) (j .plan .target .width * j .taken)
-  pub rest : drop (workValues (j .plan .target .width)) work ≡ drop (workValues (j .plan .target .width)) work₀
+  pub rest : drop (workValues (lanesOf (j .plan)) (j .plan .target .width)) work ≡ drop (workValues (lanesOf (j .plan)) (j .plan .target .width)) work₀
   pub long : length work ≡ length work₀
 
 -- ---- at the start
-pub going-first : (p : Plan) (pixels out₀ work₀ : List ℕ) → Fits (p .source) (p .crop) (p .target) → length pixels ≡ pictureBytes (p .source .width) (p .source .height)
-    → length out₀ ≡ pictureBytes (p .target .width) (p .target .height) → workValues (p .target .width) ≤ length work₀ → Going p pixels out₀ work₀ (fresh p) out₀ (cleared p work₀)
+pub going-first : (p : Plan) (pixels out₀ work₀ : List ℕ) → Fits (p .source) (p .crop) (p .target) → length pixels ≡ pictureBytes pixelLanes (p .source .width) (p .source .height)
+    → length out₀ ≡ pictureBytes pixelLanes (p .target .width) (p .target .height) → workValues (lanesOf p) (p .target .width) ≤ length work₀ → Going p pixels out₀ work₀ (fresh p) out₀ (cleared p work₀)
 unfolding rowsOf
 going-first p pixels out₀ work₀ fits pl ol room =
     let none : R p 0 ≡ 0 = rows-none (p .crop .y) (p .crop .height) (p .target .height) (fits .crop-height) in
     let unused : used (p .crop .y) (p .crop .height) 0 ≡ 0 = omega arith in
-    let w : ℕ = workValues (p .target .width) in
+    let w : ℕ = workValues (lanesOf p) (p .target .width) in
     record {
       plan-is = refl;
       rules = record { sizes = fits; rows = omega arith; low = omega (arith, none); high = omega arith; flagless = λ q. refl };
       pixels-long = pl;
       out-long = ol;
       room = rw (length-append, length-replicate) (omega arith);
-      held = rw (unused, two-halves p) (held-start (p .crop .height) (p .target .height) (halfValues (p .target .width)) (cropValue p (bytesOf pixels)) (drop (halfValues (p .target .width) + halfValues (p .target .width)) work₀));
-      made = rw (mul-zero (rowBytes (p .target .width))) refl;
+      held = rw (unused, two-halves p) (held-start (p .crop .height) (p .target .height) (halfValues (lanesOf p) (p .target .width)) (cropValue p (bytesOf pixels)) (drop (halfValues (lanesOf p) (p .target .width) + halfValues (lanesOf p) (p .target .width)) work₀));
+      made = rw (mul-zero (rowBytes (lanesOf p) (p .target .width))) refl;
       flagged = rw (mul-zero (p .target .width)) (sym (hasAlpha-none (p .layout) []));
       rest = drop-at (replicate w 0) (drop w work₀) w (length-replicate w 0);
       long = rw (length-append, length-replicate, length-drop) (omega arith);
@@ -120,16 +120,16 @@ module _ (p : Plan) (pixels out₀ work₀ : List ℕ) (j : Job) (out work : Lis
         by (inr a) = a
 
     abbrev pub lent : List ℕ
-    lent = drop (rowBytes (j .plan .source .width) * j .accepted) pixels
+    lent = drop (rowBytes (lanesOf (j .plan)) (j .plan .source .width) * j .accepted) pixels
 
-    pub lent-length : length lent ≡ rowBytes (j .plan .source .width) * (j .plan .source .height - j .accepted)
+    pub lent-length : length lent ≡ rowBytes (lanesOf (j .plan)) (j .plan .source .width) * (j .plan .source .height - j .accepted)
     lent-length =
-        rw (length-drop, g .pixels-long) (sym (mul-sub (rowBytes (j .plan .source .width)) (j .plan .source .height) (j .accepted)))
+        rw (length-drop, g .pixels-long) (sym (mul-sub (rowBytes (lanesOf (j .plan)) (j .plan .source .width)) (j .plan .source .height) (j .accepted)))
 
     lent-whole : WholeRows (j .plan) (length lent)
     lent-whole = record {
-      some = rw lent-length (mul-pos (let q : 0 < rowBytes (j .plan .source .width) = omega (arith, g .rules .sizes .source-width .some) in q) (let q : 0 < j .plan .source .height - j .accepted = omega (arith, remain) in q));
-      whole = rw lent-length (mul-mod-right (rowBytes (j .plan .source .width)) (j .plan .source .height - j .accepted));
+      some = rw lent-length (mul-pos (let q : 0 < rowBytes (lanesOf (j .plan)) (j .plan .source .width) = omega (arith, g .rules .sizes .source-width .some) in q) (let q : 0 < j .plan .source .height - j .accepted = omega (arith, remain) in q));
+      whole = rw lent-length (mul-mod-right (rowBytes (lanesOf (j .plan)) (j .plan .source .width)) (j .plan .source .height - j .accepted));
     }
 
     pub offer-accepted : offerNumber j (length lent) (length work) ≡ 0
@@ -156,7 +156,7 @@ module _ (p : Plan) (pixels out₀ work₀ : List ℕ) (j : Job) (out work : Lis
           out-long = g .out-long;
           room = rw len (g .room);
           held = fed-held q (g .rules .sizes) (bytesOf pixels) lent (j .accepted) (j .taken) c work (g .rules .high) here
-              (λ z l. getD-drop (rowBytes (q .source .width) * j .accepted) pixels z 0) (g .held);
+              (λ z l. getD-drop (rowBytes (lanesOf q) (q .source .width) * j .accepted) pixels z 0) (g .held);
           made = g .made;
           flagged = g .flagged;
           rest = fed-rest q (g .rules .sizes) lent (j .accepted) c work (g .room) ∙ g .rest;
@@ -164,7 +164,7 @@ module _ (p : Plan) (pixels out₀ work₀ : List ℕ) (j : Job) (out work : Lis
         })
 
   -- ---- a take of the next row into its part of the output
-  module _ (ready : j .taken < R (j .plan) (j .accepted)) (part : List ℕ) (exact : length part ≡ rowBytes (j .plan .target .width)) where
+  module _ (ready : j .taken < R (j .plan) (j .accepted)) (part : List ℕ) (exact : length part ≡ rowBytes (lanesOf (j .plan)) (j .plan .target .width)) where
     pub take-accepted : takeNumber j (length part) (length work) ≡ 0
     take-accepted = take-goes j (length part) (length work) (g .rules) exact (g .room) ready
 
@@ -178,13 +178,13 @@ module _ (p : Plan) (pixels out₀ work₀ : List ℕ) (j : Job) (out work : Lis
     row-made = row-is j (g .rules) ready (bytesOf pixels) work (g .held)
 
     pub take-going : Going p pixels out₀ work₀ (takeJob j (length part) work)
-        (take (rowBytes (j .plan .target .width) * j .taken) out ++ (takeOut j part work ++ drop (rowBytes (j .plan .target .width)) (drop (rowBytes (j .plan .target .width) * j .taken) out)))
+        (take (rowBytes (lanesOf (j .plan)) (j .plan .target .width) * j .taken) out ++ (takeOut j part work ++ drop (rowBytes (lanesOf (j .plan)) (j .plan .target .width)) (drop (rowBytes (lanesOf (j .plan)) (j .plan .target .width) * j .taken) out)))
         (takeWork j (length part) work)
     unfolding rowsOf
     take-going =
         let q : Plan = j .plan in
         let t : ℕ = j .taken in
-        let m : ℕ = rowBytes (q .target .width) in
+        let m : ℕ = rowBytes (lanesOf q) (q .target .width) in
         let b : ℕ → ℕ = bytesOf pixels in
         let len = left-length j work (g .room) in
         let before : take (m * t) out ≡ rowsOf q b t = ap (take (m * t)) (g .made) ∙ take-at (rowsOf q b t) (drop (m * t) out₀) (m * t) (rowsOf-length q b t) in

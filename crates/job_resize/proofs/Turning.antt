@@ -17,7 +17,7 @@ use Rattle.pixels.specs.Sizes.{rowBytes, workValues, pictureBytes}
 use Rattle.rows_schedule.proofs.Crop.{rows-all, rows-most}
 use Rattle.job.specs.declared.Plan.{Plan}
 use Rattle.job.specs.declared.Job.{Job}
-use Rattle.job.specs.Record.{R, Rules, fresh, lawful, readyOf}
+use Rattle.job.specs.Record.{lanesOf, R, Rules, fresh, lawful, readyOf}
 use Rattle.job.specs.Calls.{count, lentRows, cleared, offerJob, offerWork, takeJob, takeOut, takeWork, moreTaken, rowTaken}
 use Rattle.job.proofs.Rules.{rules-good}
 use Rattle.job.proofs.Views.{take-went}
@@ -44,12 +44,12 @@ ready-some j rules ready = simp (rules-good j rules) (ne-eqb (R (j .plan) (j .ac
 
 module _ (p : Plan) (pixels out₀ work₀ : List ℕ) (j : Job) (out work : List ℕ) (g : Going p pixels out₀ work₀ j out work) where
   -- ---- lengths, for the parts that are lent
-  pub pixels-room : rowBytes (j .plan .source .width) * j .accepted ≤ length pixels
-  pixels-room = rw (g .pixels-long) (mul-le-mul-left (rowBytes (j .plan .source .width)) (g .rules .rows))
+  pub pixels-room : rowBytes (lanesOf (j .plan)) (j .plan .source .width) * j .accepted ≤ length pixels
+  pixels-room = rw (g .pixels-long) (mul-le-mul-left (rowBytes (lanesOf (j .plan)) (j .plan .source .width)) (g .rules .rows))
 
-  pub out-length : j .taken ≤ j .plan .target .height → length out ≡ rowBytes (j .plan .target .width) * j .plan .target .height
+  pub out-length : j .taken ≤ j .plan .target .height → length out ≡ rowBytes (lanesOf (j .plan)) (j .plan .target .width) * j .plan .target .height
   out-length l =
-      let w : ℕ = rowBytes (j .plan .target .width) in
+      let w : ℕ = rowBytes (lanesOf (j .plan)) (j .plan .target .width) in
       let k = rowsOf-length (j .plan) (bytesOf pixels) (j .taken) in
       let a = length-append (rowsOf-here) (drop (w * j .taken) out₀) in
       let d : length (drop (w * j .taken) out₀) ≡ w * j .plan .target .height - w * j .taken = length-drop (w * j .taken) out₀ ∙ ap (λ (n : ℕ). n - w * j .taken) (g .out-long) in
@@ -93,10 +93,10 @@ module _ (p : Plan) (pixels out₀ work₀ : List ℕ) (j : Job) (out work : Lis
       where
         rest-rows : lentRows (j .plan) (length (restOf j pixels)) ≡ j .plan .source .height - j .accepted
         rest-rows =
-            let w : ℕ = rowBytes (j .plan .source .width) in
+            let w : ℕ = rowBytes (lanesOf (j .plan)) (j .plan .source .width) in
             let some : 0 < w = omega (arith, g .rules .sizes .source-width .some) in
             rw (lent-length p pixels out₀ work₀ j out work g quiet more)
-            (div-is {x = rowBytes (j .plan .source .width) * (j .plan .source .height - j .accepted)} w {q = j .plan .source .height - j .accepted} (omega arith) (omega arith))
+            (div-is {x = rowBytes (lanesOf (j .plan)) (j .plan .source .width) * (j .plan .source .height - j .accepted)} w {q = j .plan .source .height - j .accepted} (omega arith) (omega arith))
 
         by : (min (lentRows (j .plan) (length (restOf j pixels))) (j .plan .source .height - j .accepted) ≤ count j (length (restOf j pixels))) ⊎ (count j (length (restOf j pixels)) < min (lentRows (j .plan) (length (restOf j pixels))) (j .plan .source .height - j .accepted))
             → j .taken < R (j .plan) (j .accepted + count j (length (restOf j pixels)))
@@ -116,22 +116,22 @@ module _ (p : Plan) (pixels out₀ work₀ : List ℕ) (j : Job) (out work : Lis
 
 -- ---- the row that is ready goes to its place
 module _ (p : Plan) (pixels out₀ work₀ : List ℕ) (j : Job) (out work : List ℕ) (g : Going p pixels out₀ work₀ j out work) (ready : j .taken < R (j .plan) (j .accepted)) (below : j .taken < j .plan .target .height) where
-  pub place-room : rowBytes (j .plan .target .width) * j .taken + rowBytes (j .plan .target .width) ≤ length out
-  place-room = rw (out-length p pixels out₀ work₀ j out work g (omega arith)) (omega (arith, mul-le-mul-left (rowBytes (j .plan .target .width)) below))
+  pub place-room : rowBytes (lanesOf (j .plan)) (j .plan .target .width) * j .taken + rowBytes (lanesOf (j .plan)) (j .plan .target .width) ≤ length out
+  place-room = rw (out-length p pixels out₀ work₀ j out work g (omega arith)) (omega (arith, mul-le-mul-left (rowBytes (lanesOf (j .plan)) (j .plan .target .width)) below))
 
   abbrev pub part : List ℕ
-  part = take (rowBytes (j .plan .target .width)) (drop (rowBytes (j .plan .target .width) * j .taken) out)
+  part = take (rowBytes (lanesOf (j .plan)) (j .plan .target .width)) (drop (rowBytes (lanesOf (j .plan)) (j .plan .target .width) * j .taken) out)
 
-  part-exact : length part ≡ rowBytes (j .plan .target .width)
+  part-exact : length part ≡ rowBytes (lanesOf (j .plan)) (j .plan .target .width)
   part-exact =
-      length-take-le (rowBytes (j .plan .target .width)) (drop (rowBytes (j .plan .target .width) * j .taken) out)
+      length-take-le (rowBytes (lanesOf (j .plan)) (j .plan .target .width)) (drop (rowBytes (lanesOf (j .plan)) (j .plan .target .width) * j .taken) out)
       (rw length-drop (omega (arith, place-room)))
 
-  pub emit-going : Going p pixels out₀ work₀ (takeJob j (rowBytes (j .plan .target .width)) work)
-      (take (rowBytes (j .plan .target .width) * j .taken) out ++ (takeOut j part work ++ drop (rowBytes (j .plan .target .width)) (drop (rowBytes (j .plan .target .width) * j .taken) out)))
-      (takeWork j (rowBytes (j .plan .target .width)) work)
+  pub emit-going : Going p pixels out₀ work₀ (takeJob j (rowBytes (lanesOf (j .plan)) (j .plan .target .width)) work)
+      (take (rowBytes (lanesOf (j .plan)) (j .plan .target .width) * j .taken) out ++ (takeOut j part work ++ drop (rowBytes (lanesOf (j .plan)) (j .plan .target .width)) (drop (rowBytes (lanesOf (j .plan)) (j .plan .target .width) * j .taken) out)))
+      (takeWork j (rowBytes (lanesOf (j .plan)) (j .plan .target .width)) work)
   emit-going =
-      subst (λ (n : ℕ). Going p pixels out₀ work₀ (takeJob j n work) (take (rowBytes (j .plan .target .width) * j .taken) out ++ (takeOut j part work ++ drop (rowBytes (j .plan .target .width)) (drop (rowBytes (j .plan .target .width) * j .taken) out))) (takeWork j n work)) part-exact
+      subst (λ (n : ℕ). Going p pixels out₀ work₀ (takeJob j n work) (take (rowBytes (lanesOf (j .plan)) (j .plan .target .width) * j .taken) out ++ (takeOut j part work ++ drop (rowBytes (lanesOf (j .plan)) (j .plan .target .width)) (drop (rowBytes (lanesOf (j .plan)) (j .plan .target .width) * j .taken) out))) (takeWork j n work)) part-exact
       (take-going p pixels out₀ work₀ j out work g ready part part-exact)
 
 -- ---- the two ways out of feed
@@ -152,17 +152,17 @@ pub rest-all : (n : ℕ) (s : List ℕ) → take (length s - n) (drop n s) ≡ d
 rest-all n s = take-all (length s - n) (drop n s) (rw length-drop (omega arith))
 
 -- ---- what emit hands back: k is the length of the part lent, told as an end less a start
-pub emits : (j : Job) (out work : List ℕ) (k : ℕ) → k ≡ rowBytes (j .plan .target .width)
-    → rowBytes (j .plan .target .width) * j .taken + rowBytes (j .plan .target .width) ≤ length out
-    → (next : Job) → next ≡ takeJob j (length (take k (drop (rowBytes (j .plan .target .width) * j .taken) out))) work
-    → (row : List ℕ) → row ≡ takeOut j (take k (drop (rowBytes (j .plan .target .width) * j .taken) out)) work
-    → (after : List ℕ) → after ≡ takeWork j (length (take k (drop (rowBytes (j .plan .target .width) * j .taken) out))) work
-    → (next ≡ takeJob j (rowBytes (j .plan .target .width)) work)
-    × ((take (rowBytes (j .plan .target .width) * j .taken) out ++ (row ++ drop k (drop (rowBytes (j .plan .target .width) * j .taken) out)) ≡ take (rowBytes (j .plan .target .width) * j .taken) out ++ (takeOut j (take (rowBytes (j .plan .target .width)) (drop (rowBytes (j .plan .target .width) * j .taken) out)) work ++ drop (rowBytes (j .plan .target .width)) (drop (rowBytes (j .plan .target .width) * j .taken) out)))
-    × (after ≡ takeWork j (rowBytes (j .plan .target .width)) work))
+pub emits : (j : Job) (out work : List ℕ) (k : ℕ) → k ≡ rowBytes (lanesOf (j .plan)) (j .plan .target .width)
+    → rowBytes (lanesOf (j .plan)) (j .plan .target .width) * j .taken + rowBytes (lanesOf (j .plan)) (j .plan .target .width) ≤ length out
+    → (next : Job) → next ≡ takeJob j (length (take k (drop (rowBytes (lanesOf (j .plan)) (j .plan .target .width) * j .taken) out))) work
+    → (row : List ℕ) → row ≡ takeOut j (take k (drop (rowBytes (lanesOf (j .plan)) (j .plan .target .width) * j .taken) out)) work
+    → (after : List ℕ) → after ≡ takeWork j (length (take k (drop (rowBytes (lanesOf (j .plan)) (j .plan .target .width) * j .taken) out))) work
+    → (next ≡ takeJob j (rowBytes (lanesOf (j .plan)) (j .plan .target .width)) work)
+    × ((take (rowBytes (lanesOf (j .plan)) (j .plan .target .width) * j .taken) out ++ (row ++ drop k (drop (rowBytes (lanesOf (j .plan)) (j .plan .target .width) * j .taken) out)) ≡ take (rowBytes (lanesOf (j .plan)) (j .plan .target .width) * j .taken) out ++ (takeOut j (take (rowBytes (lanesOf (j .plan)) (j .plan .target .width)) (drop (rowBytes (lanesOf (j .plan)) (j .plan .target .width) * j .taken) out)) work ++ drop (rowBytes (lanesOf (j .plan)) (j .plan .target .width)) (drop (rowBytes (lanesOf (j .plan)) (j .plan .target .width) * j .taken) out)))
+    × (after ≡ takeWork j (rowBytes (lanesOf (j .plan)) (j .plan .target .width)) work))
 emits j out work k e room next en row er after ea =
-    let m : ℕ = rowBytes (j .plan .target .width) in
-    let part : List ℕ = drop (rowBytes (j .plan .target .width) * j .taken) out in
+    let m : ℕ = rowBytes (lanesOf (j .plan)) (j .plan .target .width) in
+    let part : List ℕ = drop (rowBytes (lanesOf (j .plan)) (j .plan .target .width) * j .taken) out in
     let len : length (take k part) ≡ m = length-take-le k part (rw length-drop (omega arith)) ∙ e in
     (en ∙ ap (λ (n : ℕ). takeJob j n work) len, (ap₂ (λ (r s : List ℕ). take (m * j .taken) out ++ (r ++ s)) (er ∙ ap (λ (n : ℕ). takeOut j (take n part) work) e) (ap (λ (n : ℕ). drop n part) e), ea ∙ ap (λ (n : ℕ). takeWork j n work) len))
 
@@ -180,19 +180,19 @@ module _ (p : Plan) (pixels out₀ work₀ : List ℕ) (j : Job) (out work : Lis
   turn-below : fed .taken < fed .plan .target .height
   turn-below = rw is (let (a, b) = fed-same p pixels out₀ work₀ j out work g more in rw (a, b) more)
 
-  pub turn-room : rowBytes (fed .plan .target .width) * fed .taken + rowBytes (fed .plan .target .width) ≤ length out
+  pub turn-room : rowBytes (lanesOf (fed .plan)) (fed .plan .target .width) * fed .taken + rowBytes (lanesOf (fed .plan)) (fed .plan .target .width) ≤ length out
   turn-room = place-room p pixels out₀ work₀ fed out between turn-fed turn-ready turn-below
 
-  module _ (next : Job) (next-is : next ≡ takeJob fed (rowBytes (fed .plan .target .width)) between) where
-    pub turn-going : (out' work' : List ℕ) → out' ≡ take (rowBytes (fed .plan .target .width) * fed .taken) out ++ (takeOut fed (take (rowBytes (fed .plan .target .width)) (drop (rowBytes (fed .plan .target .width) * fed .taken) out)) between ++ drop (rowBytes (fed .plan .target .width)) (drop (rowBytes (fed .plan .target .width) * fed .taken) out))
-        → work' ≡ takeWork fed (rowBytes (fed .plan .target .width)) between → Going p pixels out₀ work₀ next out' work'
+  module _ (next : Job) (next-is : next ≡ takeJob fed (rowBytes (lanesOf (fed .plan)) (fed .plan .target .width)) between) where
+    pub turn-going : (out' work' : List ℕ) → out' ≡ take (rowBytes (lanesOf (fed .plan)) (fed .plan .target .width) * fed .taken) out ++ (takeOut fed (take (rowBytes (lanesOf (fed .plan)) (fed .plan .target .width)) (drop (rowBytes (lanesOf (fed .plan)) (fed .plan .target .width) * fed .taken) out)) between ++ drop (rowBytes (lanesOf (fed .plan)) (fed .plan .target .width)) (drop (rowBytes (lanesOf (fed .plan)) (fed .plan .target .width) * fed .taken) out))
+        → work' ≡ takeWork fed (rowBytes (lanesOf (fed .plan)) (fed .plan .target .width)) between → Going p pixels out₀ work₀ next out' work'
     turn-going out' work' e f = rw (next-is, e, f) (emit-going p pixels out₀ work₀ fed out between turn-fed turn-ready turn-below)
 
     pub turn-less : next .plan .target .height - next .taken < j .plan .target .height - j .taken
     turn-less =
         let (a, b) = fed-same p pixels out₀ work₀ j out work g more in
         let exact = part-exact p pixels out₀ work₀ fed out between turn-fed turn-ready turn-below in
-        let lent : List ℕ = take (rowBytes (fed .plan .target .width)) (drop (rowBytes (fed .plan .target .width) * fed .taken) out) in
+        let lent : List ℕ = take (rowBytes (lanesOf (fed .plan)) (fed .plan .target .width)) (drop (rowBytes (lanesOf (fed .plan)) (fed .plan .target .width) * fed .taken) out) in
         let t = take-went fed lent between (take-accepted p pixels out₀ work₀ fed out between turn-fed turn-ready lent exact) .next in
         let n : next ≡ moreTaken fed (rowTaken fed between) = next-is ∙ ap (λ (k : ℕ). takeJob fed k between) (sym exact) ∙ t in
         let h : next .plan .target .height ≡ j .plan .target .height = ap (λ (k : Job). k .plan .target .height) n ∙ ap (λ (k : Job). k .plan .target .height) is ∙ ap (λ (q : Plan). q .target .height) a in

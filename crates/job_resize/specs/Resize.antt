@@ -10,7 +10,7 @@ use Rattle.pixels.specs.declared.Dimensions.{Dimensions}
 use Rattle.pixels.specs.declared.PixelLayout.{PixelLayout}
 use Rattle.pixels.specs.declared.Refusal.the-variants.{PixelBufferMismatch, OutputLength, WorkLength}
 use Rattle.pixels.specs.Refusals.{refusedIf, firstOf}
-use Rattle.pixels.specs.Sizes.{lanes, halfValues, workValues, pictureBytes, sizesNumber}
+use Rattle.pixels.specs.Sizes.{pixelLanes, halfValues, workValues, pictureBytes, sizesNumber}
 use Rattle.rows.specs.Column.{value}
 use Rattle.rows.specs.WorkRows.{halfOf}
 use Rattle.rows.specs.Closed.{newest}
@@ -21,13 +21,13 @@ use Rattle.job_claim.specs.Rows.{fullCrop, mattedByte, resizePlan, resized, res
 unfoldable pub resizeNumber : Dimensions → Dimensions → ℕ → ℕ → ℕ → ℕ
 resizeNumber source target n m w =
     firstOf (sizesNumber source (fullCrop source) target)
-    (firstOf (refusedIf (not (eqb n (pictureBytes (source .width) (source .height)))) PixelBufferMismatch)
-    (firstOf (refusedIf (not (eqb m (pictureBytes (target .width) (target .height)))) OutputLength)
-    (refusedIf (ltb w (workValues (target .width))) WorkLength)))
+    (firstOf (refusedIf (not (eqb n (pictureBytes pixelLanes (source .width) (source .height)))) PixelBufferMismatch)
+    (firstOf (refusedIf (not (eqb m (pictureBytes pixelLanes (target .width) (target .height)))) OutputLength)
+    (refusedIf (ltb w (workValues pixelLanes (target .width))) WorkLength)))
 
 -- the value of crop row c at place x of a half, b i being the source's byte i
 unfoldable pub rowValueAt : Plan → (ℕ → ℕ) → ℕ → ℕ → ℕ
-rowValueAt p b x c = value (mattedByte p b (x % lanes) c) (p .crop .width) (p .target .width) (x / lanes)
+rowValueAt p b x c = value (mattedByte p b (x % pixelLanes) c) (p .crop .width) (p .target .width) (x / pixelLanes)
 
 -- what the last take leaves at place x of the first and of the second half, all h crop rows having come in. Where the height does not grow, nothing is left over
 -- in the first half and the second holds the last row; where it grows, each half holds the row that went there last.
@@ -46,5 +46,5 @@ unfoldable pub resizedWork : Dimensions → PixelLayout → Dimensions → List 
 resizedWork source layout target pixels work =
     let p : Plan = resizePlan source layout target in
     let b : ℕ → ℕ = λ i. getD pixels i 0 in
-    let w : ℕ = halfValues (target .width) in
-    tabulate (lastFirst p b) w ++ (tabulate (lastSecond p b) w ++ drop (workValues (target .width)) work)
+    let w : ℕ = halfValues pixelLanes (target .width) in
+    tabulate (lastFirst p b) w ++ (tabulate (lastSecond p b) w ++ drop (workValues pixelLanes (target .width)) work)

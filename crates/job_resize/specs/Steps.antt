@@ -6,18 +6,18 @@ use mathlib.Core.List.{List, _++_}
 use lib.Dec.{eqb}
 use lib.ListN.{length, getD, drop}
 use Rattle.arithmetic.specs.Table.{tabulate}
-use Rattle.pixels.specs.Sizes.{rowBytes, halfValues, workValues, pictureBytes, Fits}
+use Rattle.pixels.specs.Sizes.{pixelLanes, rowBytes, halfValues, workValues, pictureBytes, Fits}
 use Rattle.pixels_alpha.specs.Alpha.{hasAlpha}
 use Rattle.job.specs.declared.Plan.{Plan}
 use Rattle.job.specs.declared.Job.{Job}
-use Rattle.job.specs.Record.{fresh, readyOf}
+use Rattle.job.specs.Record.{lanesOf, fresh, readyOf}
 use Rattle.job.specs.Calls.{cleared, offerJob, offerWork}
 use Rattle.job_claim.specs.Rows.{rowsOf}
 use Rattle.job_resize.specs.Resize.{lastFirst, lastSecond}
 
 -- the source rows that the job has not accepted
 abbrev pub restOf : Job → List ℕ → List ℕ
-restOf j pixels = drop (rowBytes (j .plan .source .width) * j .accepted) pixels
+restOf j pixels = drop (rowBytes (lanesOf (j .plan)) (j .plan .source .width) * j .accepted) pixels
 
 -- where no row is ready, all of them are offered
 unfoldable pub fedJob : Job → List ℕ → ℕ → Job
@@ -30,13 +30,13 @@ fedWork j pixels work = cond (eqb (readyOf j) 0) (offerWork j (restOf j pixels) 
 pub record Asked (j : Job) (pixels out work : List ℕ) : Type 0 where
   pub fresh-is : j ≡ fresh (j .plan)
   pub sizes : Fits (j .plan .source) (j .plan .crop) (j .plan .target)
-  pub pixels-long : length pixels ≡ pictureBytes (j .plan .source .width) (j .plan .source .height)
-  pub out-long : length out ≡ pictureBytes (j .plan .target .width) (j .plan .target .height)
-  pub room : workValues (j .plan .target .width) ≤ length work
+  pub pixels-long : length pixels ≡ pictureBytes pixelLanes (j .plan .source .width) (j .plan .source .height)
+  pub out-long : length out ≡ pictureBytes pixelLanes (j .plan .target .width) (j .plan .target .height)
+  pub room : workValues (lanesOf (j .plan)) (j .plan .target .width) ≤ length work
   pub clear : work ≡ cleared (j .plan) work
 
 -- the job at its end
 pub record Driven (p : Plan) (pixels work₀ : List ℕ) (flag : Bool) (out work : List ℕ) : Type 0 where
   pub out-is : out ≡ rowsOf p (λ i. getD pixels i 0) (p .target .height)
   pub flag-is : flag ≡ hasAlpha (p .layout) (rowsOf p (λ i. getD pixels i 0) (p .target .height)) (p .target .width * p .target .height)
-  pub work-is : work ≡ tabulate (lastFirst p (λ i. getD pixels i 0)) (halfValues (p .target .width)) ++ (tabulate (lastSecond p (λ i. getD pixels i 0)) (halfValues (p .target .width)) ++ drop (workValues (p .target .width)) work₀)
+  pub work-is : work ≡ tabulate (lastFirst p (λ i. getD pixels i 0)) (halfValues (lanesOf p) (p .target .width)) ++ (tabulate (lastSecond p (λ i. getD pixels i 0)) (halfValues (lanesOf p) (p .target .width)) ++ drop (workValues (lanesOf p) (p .target .width)) work₀)

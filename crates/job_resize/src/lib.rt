@@ -18,12 +18,13 @@ ghost use Prim.Native.Nat.{_+_, _*_, _≤_};
 ghost use lib.Dec.{eqb};
 ghost use lib.ListN.{length, take, drop};
 ghost use Rattle.pixels.specs.Refusals.{flaggedNumber, flaggedFlag, flagIf, bufferIf};
-ghost use Rattle.pixels.specs.Sizes.{maxSide, rowBytes, pictureBytes};
+ghost use Rattle.pixels.specs.Sizes.{pixelLanes, maxSide, rowBytes, pictureBytes};
 ghost use Rattle.job.specs.Answers.{offeredJob, takenJob};
 ghost use Rattle.job.specs.Calls.{takeJob, takeOut, takeWork};
 ghost use Rattle.job_claim.specs.Rows.{resized, resizedFlag};
 ghost use Rattle.job_resize.specs.Resize.{resizeNumber, resizedWork};
 ghost use Rattle.job_resize.specs.Steps.{Asked, Driven, fedJob, fedWork};
+ghost use Rattle.job.specs.Record.{lanesOf};
 
 // The next record of an answer, whichever it is.
 fn after_offer(answer: Offered) -> Job
@@ -46,7 +47,7 @@ fn after_take(answer: Taken) -> Job
 
 // Where no row is ready, offers all the rows that remain.
 fn feed(job: Job, pixels: &[u8], work: &mut [u32]) -> Job
-    requires { ⌜ rowBytes (job .plan .source .width) * job .accepted ≤ length (now pixels) ⌝ }
+    requires { ⌜ rowBytes (lanesOf (job .plan)) (job .plan .source .width) * job .accepted ≤ length (now pixels) ⌝ }
     ensures job { λ r. ⌜ r ≡ fedJob job (now (pixels .entry)) (length (now (work .entry))) ⌝ }
     ensures work { λ _. ⌜ now (work .exit) ≡ fedWork job (now (pixels .entry)) (now (work .entry)) ⌝ }
 {
@@ -59,10 +60,10 @@ fn feed(job: Job, pixels: &[u8], work: &mut [u32]) -> Job
 
 // Takes the next row into its place of the output.
 fn emit(job: Job, out: &mut [u8], work: &mut [u32]) -> Job
-    requires { ⌜ rowBytes (job .plan .target .width) * job .taken + rowBytes (job .plan .target .width) ≤ length (now out) ⌝ }
-    ensures job { λ r. ⌜ r ≡ takeJob job (rowBytes (job .plan .target .width)) (now (work .entry)) ⌝ }
-    ensures out { λ _. ⌜ now (out .exit) ≡ take (rowBytes (job .plan .target .width) * job .taken) (now (out .entry)) ++ (takeOut job (take (rowBytes (job .plan .target .width)) (drop (rowBytes (job .plan .target .width) * job .taken) (now (out .entry)))) (now (work .entry)) ++ drop (rowBytes (job .plan .target .width)) (drop (rowBytes (job .plan .target .width) * job .taken) (now (out .entry)))) ⌝ }
-    ensures work { λ _. ⌜ now (work .exit) ≡ takeWork job (rowBytes (job .plan .target .width)) (now (work .entry)) ⌝ }
+    requires { ⌜ rowBytes (lanesOf (job .plan)) (job .plan .target .width) * job .taken + rowBytes (lanesOf (job .plan)) (job .plan .target .width) ≤ length (now out) ⌝ }
+    ensures job { λ r. ⌜ r ≡ takeJob job (rowBytes (lanesOf (job .plan)) (job .plan .target .width)) (now (work .entry)) ⌝ }
+    ensures out { λ _. ⌜ now (out .exit) ≡ take (rowBytes (lanesOf (job .plan)) (job .plan .target .width) * job .taken) (now (out .entry)) ++ (takeOut job (take (rowBytes (lanesOf (job .plan)) (job .plan .target .width)) (drop (rowBytes (lanesOf (job .plan)) (job .plan .target .width) * job .taken) (now (out .entry)))) (now (work .entry)) ++ drop (rowBytes (lanesOf (job .plan)) (job .plan .target .width)) (drop (rowBytes (lanesOf (job .plan)) (job .plan .target .width) * job .taken) (now (out .entry)))) ⌝ }
+    ensures work { λ _. ⌜ now (work .exit) ≡ takeWork job (rowBytes (lanesOf (job .plan)) (job .plan .target .width)) (now (work .entry)) ⌝ }
 {
     let size = 4 * job.plan.target.width as usize;
     let at = size * job.taken as usize;
@@ -84,7 +85,7 @@ fn drive(first: Job, pixels: &[u8], out: &mut [u8], work: &mut [u32]) -> Job
 
 fn wrong_length(length: usize, size: Dimensions) -> bool
     requires { ⌜ (size .width ≤ maxSide) × (size .height ≤ maxSide) ⌝ }
-    ensures { λ r. ⌜ r ≡ not (eqb length (pictureBytes (size .width) (size .height))) ⌝ }
+    ensures { λ r. ⌜ r ≡ not (eqb length (pictureBytes pixelLanes (size .width) (size .height))) ⌝ }
 {
     length != 4 * size.width as usize * size.height as usize
 }

@@ -10,7 +10,7 @@ use lib.ListN.{getD}
 use Rattle.arithmetic.specs.Matte.{laneOf, scaleColour, matteFactor}
 use Rattle.arithmetic.proofs.Mattes.{lane-byte, matte-colour, matte-alpha, matte-within}
 use Rattle.pixels.specs.declared.PixelLayout.{PixelLayout}
-use Rattle.pixels.specs.Sizes.{lanes}
+use Rattle.pixels.specs.Sizes.{pixelLanes}
 use Rattle.pixels.specs.Layout.{placeOf, alphaLane, laneAt, alphaAt, pixelAt}
 use Rattle.pixels.specs.Lanes.{matted, restoredPixel, restoredPlace}
 use Rattle.pixels.proofs.Packing.{pixelAt-lane, packed-byte}
@@ -20,7 +20,7 @@ unfolding matted
 matted-byte l s k i = lane-byte _ k
 
 -- no colour is above its alpha
-pub matted-under : (l : PixelLayout) (s : List ℕ) (k i : ℕ) → k < lanes → matted l s k i ≤ matted l s alphaLane i
+pub matted-under : (l : PixelLayout) (s : List ℕ) (k i : ℕ) → k < pixelLanes → matted l s k i ≤ matted l s alphaLane i
 unfolding matted
 matted-under l s k i h =
     ⊎-elim (λ e. rw e (le-refl _)) (λ lt. matte-within (pixelAt l s i) k lt) (eq-or-lt-of-le (le-of-suc-le-suc h))
@@ -39,6 +39,6 @@ module _ (l : PixelLayout) (s : List ℕ) (bytes : (x : ℕ) → getD s x 0 ≤ 
   matted-alpha = matte-alpha (pixelAt l s i) ∙ pixelAt-lane l s i alphaLane bytes (omega arith)
 
 -- the byte at place j of pixel i of a restored row
-pub restored-byte : (l : PixelLayout) (v : ℕ → ℕ) (i j : ℕ) → j < lanes → restoredPlace l v (lanes * i + j) ≡ laneOf (restoredPixel v i) (placeOf l j)
+pub restored-byte : (l : PixelLayout) (v : ℕ → ℕ) (i j : ℕ) → j < pixelLanes → restoredPlace l v (pixelLanes * i + j) ≡ laneOf (restoredPixel v i) (placeOf l j)
 unfolding restoredPlace
 restored-byte l v i j h = packed-byte l (restoredPixel v) i j h

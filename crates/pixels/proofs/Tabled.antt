@@ -6,11 +6,11 @@ use lib.Dec.{lit<}
 use Rattle.pixels.specs.declared.PixelLayout.{PixelLayout}
 use Rattle.pixels.specs.declared.PixelLayout.the-variants.{Rgba8, Argb8, Bgra8}
 use Rattle.pixels.specs.declared.Places.{Places}
-use Rattle.pixels.specs.Sizes.{lanes}
+use Rattle.pixels.specs.Sizes.{pixelLanes}
 use Rattle.pixels.specs.Layout.{rowOf, placeOf, placesOf}
 
 -- what holds of each lane holds of every lane
-pub each-lane : (P : ℕ → Type 0) → P 0 → P 1 → P 2 → P 3 → (k : ℕ) → k < lanes → P k
+pub each-lane : (P : ℕ → Type 0) → P 0 → P 1 → P 2 → P 3 → (k : ℕ) → k < pixelLanes → P k
 each-lane P a b c d zero h = a
 each-lane P a b c d (suc zero) h = b
 each-lane P a b c d (suc (suc zero)) h = c
@@ -22,13 +22,13 @@ row-lt Rgba8 = lit< tt
 row-lt Argb8 = lit< tt
 row-lt Bgra8 = lit< tt
 
-pub place-lt : (l : PixelLayout) (k : ℕ) → k < lanes → placeOf l k < lanes
-place-lt Rgba8 = each-lane (λ k. placeOf Rgba8 k < lanes) (lit< tt) (lit< tt) (lit< tt) (lit< tt)
-place-lt Argb8 = each-lane (λ k. placeOf Argb8 k < lanes) (lit< tt) (lit< tt) (lit< tt) (lit< tt)
-place-lt Bgra8 = each-lane (λ k. placeOf Bgra8 k < lanes) (lit< tt) (lit< tt) (lit< tt) (lit< tt)
+pub place-lt : (l : PixelLayout) (k : ℕ) → k < pixelLanes → placeOf l k < pixelLanes
+place-lt Rgba8 = each-lane (λ k. placeOf Rgba8 k < pixelLanes) (lit< tt) (lit< tt) (lit< tt) (lit< tt)
+place-lt Argb8 = each-lane (λ k. placeOf Argb8 k < pixelLanes) (lit< tt) (lit< tt) (lit< tt) (lit< tt)
+place-lt Bgra8 = each-lane (λ k. placeOf Bgra8 k < pixelLanes) (lit< tt) (lit< tt) (lit< tt) (lit< tt)
 
 -- each row is its own inverse: the lane at the place of lane k is k
-pub place-twice : (l : PixelLayout) (k : ℕ) → k < lanes → placeOf l (placeOf l k) ≡ k
+pub place-twice : (l : PixelLayout) (k : ℕ) → k < pixelLanes → placeOf l (placeOf l k) ≡ k
 place-twice Rgba8 = each-lane (λ k. placeOf Rgba8 (placeOf Rgba8 k) ≡ k) refl refl refl refl
 place-twice Argb8 = each-lane (λ k. placeOf Argb8 (placeOf Argb8 k) ≡ k) refl refl refl refl
 place-twice Bgra8 = each-lane (λ k. placeOf Bgra8 (placeOf Bgra8 k) ≡ k) refl refl refl refl

@@ -5,7 +5,7 @@ use mathlib.Core.Bool.{true, false}
 use mathlib.Core.List.{List}
 use Rattle.arithmetic.specs.Matte.{laneOf, pixelOf, multArgb}
 use Rattle.pixels.specs.declared.PixelLayout.{PixelLayout}
-use Rattle.pixels.specs.Sizes.{lanes}
+use Rattle.pixels.specs.Sizes.{pixelLanes}
 use Rattle.pixels.specs.Layout.{pixelAt, packedByte}
 
 -- "The matted bytes": lane k of pixel i of the row s after mult_argb (matte)
@@ -14,7 +14,7 @@ matted layout s k i = laneOf (multArgb (pixelAt layout s i) false) k
 
 -- "Pixels are then restored": pixel j of lane values that stand B, G, R, A, pixel after pixel, after mult_argb (restore)
 unfoldable pub restoredPixel : (ℕ → ℕ) → ℕ → ℕ
-restoredPixel v j = multArgb (pixelOf (λ k. v (lanes * j + k))) true
+restoredPixel v j = multArgb (pixelOf (λ k. v (pixelLanes * j + k))) true
 
 -- "and packed": byte x of the packed row
 unfoldable pub restoredPlace : PixelLayout → (ℕ → ℕ) → ℕ → ℕ

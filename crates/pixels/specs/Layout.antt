@@ -12,7 +12,7 @@ use Rattle.pixels.specs.declared.PixelLayout.the-variants.{Rgba8, Argb8,
 use Rattle.pixels.specs.declared.Places.{Places}
 use Rattle.pixels.specs.declared.Refusal.the-variants.{OutputLength}
 use Rattle.pixels.specs.Refusals.{refusedIf}
-use Rattle.pixels.specs.Sizes.{lanes}
+use Rattle.pixels.specs.Sizes.{pixelLanes}
 
 -- the table's rows: Rgba8, Argb8, Bgra8
 abbrev pub rowOf : PixelLayout → ℕ
@@ -36,7 +36,7 @@ placesOf layout =
 
 -- lane k of pixel i of the bytes s
 abbrev pub laneAt : PixelLayout → List ℕ → ℕ → ℕ → ℕ
-laneAt layout s i k = getD s (lanes * i + placeOf layout k) 0
+laneAt layout s i k = getD s (pixelLanes * i + placeOf layout k) 0
 
 -- the alpha byte of pixel i
 abbrev pub alphaAt : PixelLayout → List ℕ → ℕ → ℕ
@@ -51,23 +51,23 @@ unfoldable pub unpacked : PixelLayout → List ℕ → ℕ
 unpacked layout s = pixelAt layout s 0
 
 unfoldable pub packed : PixelLayout → ℕ → List ℕ
-packed layout argb = tabulate (λ j. laneOf argb (placeOf layout j)) lanes
+packed layout argb = tabulate (λ j. laneOf argb (placeOf layout j)) pixelLanes
 
 -- whole slices: trailing bytes that make no pixel are ignored
 unfoldable pub unpackedPixels : PixelLayout → List ℕ → List ℕ
-unpackedPixels layout s = tabulate (pixelAt layout s) (length s / lanes)
+unpackedPixels layout s = tabulate (pixelAt layout s) (length s / pixelLanes)
 
 -- byte x of packed pixels: of pixel x / lanes, at its place x % lanes
 unfoldable pub packedByte : PixelLayout → (ℕ → ℕ) → ℕ → ℕ
-packedByte layout p x = laneOf (p (x / lanes)) (placeOf layout (x % lanes))
+packedByte layout p x = laneOf (p (x / pixelLanes)) (placeOf layout (x % pixelLanes))
 
 unfoldable pub packedPixels : PixelLayout → List ℕ → List ℕ
-packedPixels layout argb = tabulate (packedByte layout (λ i. getD argb i 0)) (lanes * length argb)
+packedPixels layout argb = tabulate (packedByte layout (λ i. getD argb i 0)) (pixelLanes * length argb)
 
 -- "its output holds exactly length / 4 values, else 4", of n bytes and m values of output
 unfoldable pub unpackNumber : ℕ → ℕ → ℕ
-unpackNumber n m = refusedIf (not (eqb m (n / lanes))) OutputLength
+unpackNumber n m = refusedIf (not (eqb m (n / pixelLanes))) OutputLength
 
 -- "4 × pixels for packing", of n pixels and m bytes of output
 unfoldable pub packNumber : ℕ → ℕ → ℕ
-packNumber n m = refusedIf (not (eqb m (lanes * n))) OutputLength
+packNumber n m = refusedIf (not (eqb m (pixelLanes * n))) OutputLength

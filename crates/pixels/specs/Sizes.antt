@@ -12,24 +12,26 @@ use Rattle.pixels.specs.Refusals.{refusedIf, firstOf}
 abbrev pub maxSide : ℕ
 maxSide = 16384
 
--- the bytes of a pixel, one for each lane
-abbrev pub lanes : ℕ
-lanes = 4
+-- the lanes of a pixel: blue, green, red and alpha, a byte each
+abbrev pub pixelLanes : ℕ
+pixelLanes = 4
+
+-- ---- lengths, of rows that have `lanes` lanes
 
 -- the bytes of a row of w pixels
-abbrev pub rowBytes : ℕ → ℕ
-rowBytes w = lanes * w
+abbrev pub rowBytes : ℕ → ℕ → ℕ
+rowBytes lanes w = lanes * w
 
 -- the bytes of w by h pixels: h rows
-abbrev pub pictureBytes : ℕ → ℕ → ℕ
-pictureBytes w h = rowBytes w * h
+abbrev pub pictureBytes : ℕ → ℕ → ℕ → ℕ
+pictureBytes lanes w h = rowBytes lanes w * h
 
--- "Work rows are two halves of 4 × m values each"
-abbrev pub halfValues : ℕ → ℕ
-halfValues m = lanes * m
+-- "Work rows are two halves of 4 × m values each", one for each lane
+abbrev pub halfValues : ℕ → ℕ → ℕ
+halfValues lanes m = lanes * m
 
-abbrev pub workValues : ℕ → ℕ
-workValues m = 2 * halfValues m
+abbrev pub workValues : ℕ → ℕ → ℕ
+workValues lanes m = 2 * halfValues lanes m
 
 -- "a source or target side is 0 or above 16,384"
 unfoldable pub badSide : ℕ → Bool

@@ -4,7 +4,7 @@ use crate::Places;
 ghost use mathlib.Core.Path.{_≡_};
 ghost use Prim.Native.Nat.{_+_, _*_, _^_, _<_};
 ghost use Rattle.arithmetic.specs.Matte.{laneOf};
-ghost use Rattle.pixels.specs.Sizes.{lanes};
+ghost use Rattle.pixels.specs.Sizes.{pixelLanes};
 ghost use Rattle.pixels.specs.Layout.{rowOf, placeOf, placesOf, alphaLane, packed, unpacked};
 
 // A row for each layout, in the order of PixelLayout: the place of the lanes B, G, R, A among a pixel's bytes. Each row is its own inverse, so it
@@ -22,9 +22,9 @@ fn row(layout: PixelLayout) -> usize
 }
 
 fn place(layout: PixelLayout, k: usize) -> usize
-    requires { ⌜ k < lanes ⌝ }
+    requires { ⌜ k < pixelLanes ⌝ }
     ensures is { λ r. ⌜ r ≡ placeOf layout k ⌝ }
-    ensures within { λ r. ⌜ r < lanes ⌝ }
+    ensures within { λ r. ⌜ r < pixelLanes ⌝ }
 {
     let i = row(layout);
     LANES[i][k]
@@ -32,7 +32,7 @@ fn place(layout: PixelLayout, k: usize) -> usize
 
 // Lane k of a pixel AARRGGBB, counted from the lowest byte.
 fn lane(argb: u32, k: usize) -> u8
-    requires { ⌜ k < lanes ⌝ }
+    requires { ⌜ k < pixelLanes ⌝ }
     ensures { λ r. ⌜ r ≡ laneOf argb k ⌝ }
 {
     match k {

@@ -1,13 +1,18 @@
 // Pixels: sizes, layouts and why a call is turned away (document 01, "Lanes", "Beside the job", "Why a call is turned away"; the Rust: image.rs and the
 // crop of geometry.rs). Every function answers for all arguments. Fields are public: a value counts, whoever filled it, and is tested where it is used.
+pub use sizes::bad_side;
 pub use sizes::bad_size;
 pub use sizes::check_sizes;
 
 mod layout;
 mod sizes;
+mod table;
 
 // Largest side of a picture, in pixels (the Rust's name): a bitstream stores a side less one in 14 bits.
 pub const MAX_DIMENSION: u32 = 16384;
+
+// The lanes of a pixel, a byte each: blue, green, red, alpha.
+pub const PIXEL_LANES: usize = 4;
 
 pub struct Dimensions {
     pub width: u32,

@@ -10,7 +10,8 @@ ghost use Prim.Native.Nat.{_*_, _^_, _≤_};
 ghost use Rattle.pixels.specs.Refusals.{checkedNumber, sizedNumber, sizedSize, sizeIf};
 ghost use Rattle.pixels.specs.Sizes.{maxSide, badSide, badSize, sizeOf, rectOf, sizeNumber, sizesNumber, derivedSide, scaledNumber, scaledSize};
 
-fn bad_side(side: u64) -> bool
+// A side is 0 or above the limit. Rules out: a side of 0 passed; a side of 16,384 refused.
+pub fn bad_side(side: u64) -> bool
     ensures { λ r. ⌜ r ≡ badSide side ⌝ }
 {
     if side == 0 {
@@ -19,7 +20,7 @@ fn bad_side(side: u64) -> bool
     side > MAX_DIMENSION as u64
 }
 
-// A side is 0 or above the limit: number 1 of one size. Rules out: only the width tested; a side of 16,384 refused.
+// A side of the size is 0 or above the limit: number 1 of one size. Rules out: only the width tested; half of the height tested.
 pub fn bad_size(size: Dimensions) -> bool
     ensures { λ r. ⌜ r ≡ badSize size ⌝ }
 {

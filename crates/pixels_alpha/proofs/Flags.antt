@@ -11,7 +11,7 @@ use lib.Dec.{eqb}
 use lib.ListN.{length}
 use borrow.Author.Tests.{eq-eqb, ne-eqb}
 use Rattle.pixels.specs.declared.PixelLayout.{PixelLayout}
-use Rattle.pixels.specs.Sizes.{lanes}
+use Rattle.pixels.specs.Sizes.{pixelLanes}
 use Rattle.pixels_alpha.specs.Alpha.{someClear, hasAlpha}
 
 -- one alpha that isn't 255
@@ -40,7 +40,7 @@ clear-cong a b (suc n) h =
     ap₂ (λ (x : Bool) (y : ℕ). x || not (eqb y 255)) (clear-cong a b n (λ i l. h i (omega arith))) (h n (omega arith))
 
 -- the flag of a buffer is that of the pixels it holds
-pub flag-of : (l : PixelLayout) (s t : List ℕ) (n : ℕ) {r : Bool} → r ≡ hasAlpha l s (length s / lanes) → s ≡ t → length t ≡ lanes * n → r ≡ hasAlpha l t n
+pub flag-of : (l : PixelLayout) (s t : List ℕ) (n : ℕ) {r : Bool} → r ≡ hasAlpha l s (length s / pixelLanes) → s ≡ t → length t ≡ pixelLanes * n → r ≡ hasAlpha l t n
 flag-of l s t n e same long =
-    let q : length t / lanes ≡ n = omega arith in
-    e ∙ ap (λ (u : List ℕ). hasAlpha l u (length u / lanes)) same ∙ ap (hasAlpha l t) q
+    let q : length t / pixelLanes ≡ n = omega arith in
+    e ∙ ap (λ (u : List ℕ). hasAlpha l u (length u / pixelLanes)) same ∙ ap (hasAlpha l t) q

@@ -7,7 +7,7 @@ use Rattle.pixels.specs.declared.Dimensions.{Dimensions}
 use Rattle.pixels.specs.declared.Refusal.{Refusal}
 use Rattle.pixels.specs.declared.Refusal.the-variants.{InvalidDimensions, PixelBufferMismatch}
 use Rattle.pixels.specs.Refusals.{number}
-use Rattle.pixels.specs.Sizes.{maxSide, badSize, pictureBytes, sizeNumber}
+use Rattle.pixels.specs.Sizes.{pixelLanes, maxSide, badSize, pictureBytes, sizeNumber}
 use Rattle.pixels_alpha.specs.Alpha.{pictureNumber, alphaNumber}
 use Rattle.pixels.proofs.Numbers.{first-why, first-next, first-none, length-refused, length-passes, length-same}
 use Rattle.pixels.proofs.Fitting.{size-bad, size-passes}
@@ -21,16 +21,16 @@ module _ (size : Dimensions) (n : ℕ) where
   unfolding pictureNumber
   picture-bad e = first-why InvalidDimensions _ _ (size-bad size e)
 
-  pub picture-length : badSize size ≡ false → (n ≡ pictureBytes (size .width) (size .height) → ⊥) → pictureNumber size n ≡ number PixelBufferMismatch
+  pub picture-length : badSize size ≡ false → (n ≡ pictureBytes pixelLanes (size .width) (size .height) → ⊥) → pictureNumber size n ≡ number PixelBufferMismatch
   unfolding pictureNumber
   picture-length e h = first-next _ _ (size-passes size e) ∙ length-refused PixelBufferMismatch _ _ h
 
-  pub picture-passes : badSize size ≡ false → n ≡ pictureBytes (size .width) (size .height) → pictureNumber size n ≡ 0
+  pub picture-passes : badSize size ≡ false → n ≡ pictureBytes pixelLanes (size .width) (size .height) → pictureNumber size n ≡ 0
   unfolding pictureNumber
   picture-passes e h = first-next _ _ (size-passes size e) ∙ length-passes PixelBufferMismatch _ _ h
 
   -- a picture that passes has its length, and sides that pass
-  pub picture-long : pictureNumber size n ≡ 0 → n ≡ pictureBytes (size .width) (size .height)
+  pub picture-long : pictureNumber size n ≡ 0 → n ≡ pictureBytes pixelLanes (size .width) (size .height)
   unfolding pictureNumber
   picture-long e = length-same PixelBufferMismatch _ _ (first-none (sizeNumber size) _ e .1)
 

@@ -10,7 +10,7 @@ use Rattle.pixels.specs.declared.Dimensions.{Dimensions}
 use Rattle.pixels.specs.declared.PixelLayout.{PixelLayout}
 use Rattle.pixels.specs.declared.Refusal.the-variants.{PixelBufferMismatch}
 use Rattle.pixels.specs.Refusals.{refusedIf, firstOf}
-use Rattle.pixels.specs.Sizes.{lanes, pictureBytes, sizeNumber}
+use Rattle.pixels.specs.Sizes.{pixelLanes, pictureBytes, sizeNumber}
 use Rattle.pixels.specs.Layout.{alphaLane, placeOf, alphaAt}
 
 -- whether some of the alphas a 0, a 1, .. of n pixels isn't 255
@@ -29,11 +29,11 @@ argbHasAlpha argb = someClear (λ i. laneOf (getD argb i 0) alphaLane) (length a
 -- ---- a picture of its size in n bytes: 1, then 3
 unfoldable pub pictureNumber : Dimensions → ℕ → ℕ
 pictureNumber size n =
-    firstOf (sizeNumber size) (refusedIf (not (eqb n (pictureBytes (size .width) (size .height)))) PixelBufferMismatch)
+    firstOf (sizeNumber size) (refusedIf (not (eqb n (pictureBytes pixelLanes (size .width) (size .height)))) PixelBufferMismatch)
 
 -- ---- "`apply_alpha_plane` writes only alpha bytes": byte x is the plane's byte of its pixel at the alpha place a, and itself elsewhere
 unfoldable pub alphaByte : ℕ → List ℕ → List ℕ → ℕ → ℕ
-alphaByte a pixels plane x = cond (eqb (x % lanes) a) (getD plane (x / lanes) 0) (getD pixels x 0)
+alphaByte a pixels plane x = cond (eqb (x % pixelLanes) a) (getD plane (x / pixelLanes) 0) (getD pixels x 0)
 
 unfoldable pub withAlpha : PixelLayout → List ℕ → List ℕ → List ℕ
 withAlpha layout pixels plane = tabulate (alphaByte (placeOf layout alphaLane) pixels plane) (length pixels)

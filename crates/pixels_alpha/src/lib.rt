@@ -9,12 +9,12 @@ ghost use mathlib.Core.Path.{_≡_};
 ghost use Prim.Native.Nat.{_*_, _/_};
 ghost use lib.ListN.{length};
 ghost use Rattle.pixels.specs.Refusals.{checkedNumber, flaggedNumber, flaggedFlag, flagIf, bufferIf};
-ghost use Rattle.pixels.specs.Sizes.{lanes};
+ghost use Rattle.pixels.specs.Sizes.{pixelLanes};
 ghost use Rattle.pixels_alpha.specs.Alpha.{hasAlpha, pictureNumber, withAlpha, alphaNumber};
 
 // The alpha flag of packed pixels; bytes after the last whole pixel are ignored. Rules out: a flag that looks at a colour; one that stops a pixel short.
 pub fn has_alpha(layout: PixelLayout, bytes: &[u8]) -> bool
-    ensures { λ r. ⌜ r ≡ hasAlpha layout (now (bytes .entry)) (length (now (bytes .entry)) / lanes) ⌝ }
+    ensures { λ r. ⌜ r ≡ hasAlpha layout (now (bytes .entry)) (length (now (bytes .entry)) / pixelLanes) ⌝ }
 {
     let a = layout.alpha_byte_offset();
     let n = bytes.len() / 4;
@@ -60,7 +60,7 @@ pub fn picture_has_alpha(size: Dimensions, layout: PixelLayout, pixels: &[u8]) -
 
 // Writes the plane's bytes to the alpha places.
 fn put_alpha(layout: PixelLayout, pixels: &mut [u8], plane: &[u8])
-    requires { ⌜ length (now pixels) ≡ lanes * length (now plane) ⌝ }
+    requires { ⌜ length (now pixels) ≡ pixelLanes * length (now plane) ⌝ }
     ensures { λ _. ⌜ now (pixels .exit) ≡ withAlpha layout (now (pixels .entry)) (now (plane .entry)) ⌝ }
 {
     let alpha = layout.alpha_byte_offset();

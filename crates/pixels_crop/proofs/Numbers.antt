@@ -6,7 +6,7 @@ use Rattle.pixels.specs.declared.Rect.{Rect}
 use Rattle.pixels.specs.declared.Refusal.{Refusal}
 use Rattle.pixels.specs.declared.Refusal.the-variants.{PixelBufferMismatch, OutputLength}
 use Rattle.pixels.specs.Refusals.{number}
-use Rattle.pixels.specs.Sizes.{pictureBytes, sizesNumber}
+use Rattle.pixels.specs.Sizes.{pixelLanes, pictureBytes, sizesNumber}
 use Rattle.pixels_crop.specs.Crop.{cropNumber}
 use Rattle.pixels.proofs.Numbers.{first-why, first-next, length-refused, length-passes}
 
@@ -16,14 +16,14 @@ module _ (source : Dimensions) (crop : Rect) (n m : ℕ) where
   crop-refused why e = first-why why _ _ e
 
   module _ (fit : sizesNumber source crop source ≡ 0) where
-    pub crop-length : (n ≡ pictureBytes (source .width) (source .height) → ⊥) → cropNumber source crop n m ≡ number PixelBufferMismatch
+    pub crop-length : (n ≡ pictureBytes pixelLanes (source .width) (source .height) → ⊥) → cropNumber source crop n m ≡ number PixelBufferMismatch
     unfolding cropNumber
     crop-length h = first-next _ _ fit ∙ first-why PixelBufferMismatch _ _ (length-refused PixelBufferMismatch _ _ h)
 
-    pub crop-output : n ≡ pictureBytes (source .width) (source .height) → (m ≡ pictureBytes (crop .width) (crop .height) → ⊥) → cropNumber source crop n m ≡ number OutputLength
+    pub crop-output : n ≡ pictureBytes pixelLanes (source .width) (source .height) → (m ≡ pictureBytes pixelLanes (crop .width) (crop .height) → ⊥) → cropNumber source crop n m ≡ number OutputLength
     unfolding cropNumber
     crop-output e h = first-next _ _ fit ∙ first-next _ _ (length-passes PixelBufferMismatch _ _ e) ∙ length-refused OutputLength _ _ h
 
-    pub crop-passes : n ≡ pictureBytes (source .width) (source .height) → m ≡ pictureBytes (crop .width) (crop .height) → cropNumber source crop n m ≡ 0
+    pub crop-passes : n ≡ pictureBytes pixelLanes (source .width) (source .height) → m ≡ pictureBytes pixelLanes (crop .width) (crop .height) → cropNumber source crop n m ≡ 0
     unfolding cropNumber
     crop-passes e h = first-next _ _ fit ∙ first-next _ _ (length-passes PixelBufferMismatch _ _ e) ∙ length-passes OutputLength _ _ h

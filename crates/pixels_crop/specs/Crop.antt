@@ -8,21 +8,21 @@ use Rattle.pixels.specs.declared.Dimensions.{Dimensions}
 use Rattle.pixels.specs.declared.Rect.{Rect}
 use Rattle.pixels.specs.declared.Refusal.the-variants.{PixelBufferMismatch, OutputLength}
 use Rattle.pixels.specs.Refusals.{refusedIf, firstOf}
-use Rattle.pixels.specs.Sizes.{rowBytes, pictureBytes, sizesNumber}
+use Rattle.pixels.specs.Sizes.{pixelLanes, rowBytes, pictureBytes, sizesNumber}
 
 -- ---- "the cropped stretch handed back is a part of that same row": w pixels from pixel x on, and the empty part where they do not lie in the row
-unfoldable pub windowOf : List ℕ → ℕ → ℕ → List ℕ
-windowOf row x w = cond (leb (rowBytes (x + w)) (length row)) (take (rowBytes w) (drop (rowBytes x) row)) []
+unfoldable pub windowOf : ℕ → List ℕ → ℕ → ℕ → List ℕ
+windowOf lanes row x w = cond (leb (rowBytes lanes (x + w)) (length row)) (take (rowBytes lanes w) (drop (rowBytes lanes x) row)) []
 
 -- row c of a picture w pixels wide
-unfoldable pub pictureRow : List ℕ → ℕ → ℕ → List ℕ
-pictureRow pixels w c = take (rowBytes w) (drop (rowBytes w * c) pixels)
+unfoldable pub pictureRow : ℕ → List ℕ → ℕ → ℕ → List ℕ
+pictureRow lanes pixels w c = take (rowBytes lanes w) (drop (rowBytes lanes w * c) pixels)
 
 -- ---- "`crop` copies rows": the windows of the crop's first n rows
 unfoldable pub croppedRows : List ℕ → ℕ → Rect → ℕ → List ℕ
 croppedRows pixels w crop zero = []
 croppedRows pixels w crop (suc n) =
-    croppedRows pixels w crop n ++ windowOf (pictureRow pixels w (crop .y + n)) (crop .x) (crop .width)
+    croppedRows pixels w crop n ++ windowOf pixelLanes (pictureRow pixelLanes pixels w (crop .y + n)) (crop .x) (crop .width)
 
 unfoldable pub cropped : Dimensions → Rect → List ℕ → List ℕ
 cropped source crop pixels = croppedRows pixels (source .width) crop (crop .height)
@@ -31,5 +31,5 @@ cropped source crop pixels = croppedRows pixels (source .width) crop (crop .heig
 unfoldable pub cropNumber : Dimensions → Rect → ℕ → ℕ → ℕ
 cropNumber source crop n m =
     firstOf (sizesNumber source crop source)
-    (firstOf (refusedIf (not (eqb n (pictureBytes (source .width) (source .height)))) PixelBufferMismatch)
-    (refusedIf (not (eqb m (pictureBytes (crop .width) (crop .height)))) OutputLength))
+    (firstOf (refusedIf (not (eqb n (pictureBytes pixelLanes (source .width) (source .height)))) PixelBufferMismatch)
+    (refusedIf (not (eqb m (pictureBytes pixelLanes (crop .width) (crop .height)))) OutputLength))

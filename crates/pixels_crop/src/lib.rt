@@ -12,14 +12,14 @@ ghost use mathlib.Core.List.{_++_};
 ghost use Prim.Native.Nat.{_+_, _*_, _≤_};
 ghost use lib.ListN.{length, take, drop};
 ghost use Rattle.pixels.specs.Refusals.{flaggedNumber, flaggedFlag, flagIf, bufferIf};
-ghost use Rattle.pixels.specs.Sizes.{pictureBytes, Fits};
+ghost use Rattle.pixels.specs.Sizes.{pixelLanes, pictureBytes, Fits};
 ghost use Rattle.pixels_alpha.specs.Alpha.{hasAlpha};
 ghost use Rattle.pixels_crop.specs.Crop.{windowOf, cropped, cropNumber};
 
 // The crop window of a row: width pixels from pixel x on, a part of that same row; the empty part where they do not lie in it.
 // Rules out: a window one to the left; one cut off at the row's end.
 pub fn window(row: &[u8], x: u32, width: u32) -> &[u8]
-    ensures { λ r. ⌜ now r ≡ windowOf (now (row .entry)) x width ⌝ }
+    ensures { λ r. ⌜ now r ≡ windowOf pixelLanes (now (row .entry)) x width ⌝ }
 {
     let at = 4 * (x as usize);
     let len = 4 * (width as usize);
@@ -46,7 +46,7 @@ fn copy_at(out: &mut [u8], at: usize, src: &[u8])
 
 // Copies the rows of a crop that fits, each the window of its source row.
 fn crop_into(source: Dimensions, rect: Rect, pixels: &[u8], out: &mut [u8])
-    requires { ⌜ Fits source rect source × (length (now pixels) ≡ pictureBytes (source .width) (source .height)) × (length (now out) ≡ pictureBytes (rect .width) (rect .height)) ⌝ }
+    requires { ⌜ Fits source rect source × (length (now pixels) ≡ pictureBytes pixelLanes (source .width) (source .height)) × (length (now out) ≡ pictureBytes pixelLanes (rect .width) (rect .height)) ⌝ }
     ensures { λ _. ⌜ now (out .exit) ≡ cropped source rect (now (pixels .entry)) ⌝ }
 {
     let h = rect.height as usize;

@@ -7,14 +7,14 @@ ghost use mathlib.Core.List.{_++_};
 ghost use Prim.Native.Nat.{_+_, _*_, _/_, _≤_};
 ghost use lib.ListN.{length, take, drop};
 ghost use Rattle.pixels.specs.Refusals.{checkedNumber, bufferIf};
-ghost use Rattle.pixels.specs.Sizes.{lanes};
+ghost use Rattle.pixels.specs.Sizes.{pixelLanes};
 ghost use Rattle.pixels.specs.Layout.{packedPixels, unpackedPixels, packNumber, unpackNumber};
 ghost use Rattle.pixels_alpha.specs.Alpha.{argbHasAlpha};
 
 // Stores a pixel's bytes from at on.
 fn put(out: &mut [u8], at: usize, px: [u8; 4])
-    requires { ⌜ (at + lanes ≤ length (now out)) × (length px ≡ lanes) ⌝ }
-    ensures { λ _. ⌜ now (out .exit) ≡ take at (now (out .entry)) ++ (px ++ drop (at + lanes) (now (out .entry))) ⌝ }
+    requires { ⌜ (at + pixelLanes ≤ length (now out)) × (length px ≡ pixelLanes) ⌝ }
+    ensures { λ _. ⌜ now (out .exit) ≡ take at (now (out .entry)) ++ (px ++ drop (at + pixelLanes) (now (out .entry))) ⌝ }
 {
     out[at] = px[0];
     out[at + 1] = px[1];
@@ -23,7 +23,7 @@ fn put(out: &mut [u8], at: usize, px: [u8; 4])
 }
 
 fn pack_into(layout: PixelLayout, argb: &[u32], out: &mut [u8])
-    requires { ⌜ length (now out) ≡ lanes * length (now argb) ⌝ }
+    requires { ⌜ length (now out) ≡ pixelLanes * length (now argb) ⌝ }
     ensures { λ _. ⌜ now (out .exit) ≡ packedPixels layout (now (argb .entry)) ⌝ }
 {
     let mut i = 0;
@@ -49,7 +49,7 @@ pub fn pack_pixels(layout: PixelLayout, argb: &[u32], out: &mut [u8]) -> Checked
 }
 
 fn unpack_into(layout: PixelLayout, bytes: &[u8], out: &mut [u32])
-    requires { ⌜ length (now out) ≡ length (now bytes) / lanes ⌝ }
+    requires { ⌜ length (now out) ≡ length (now bytes) / pixelLanes ⌝ }
     ensures { λ _. ⌜ now (out .exit) ≡ unpackedPixels layout (now (bytes .entry)) ⌝ }
 {
     let mut i = 0;

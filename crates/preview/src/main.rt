@@ -18,6 +18,7 @@ use preview_decimal::number;
 ghost use Prim.Native.Nat.{_≤_};
 ghost use lib.ListN.{length};
 ghost use Rattle.pixels.specs.Sizes.{rowBytes};
+ghost use Rattle.job.specs.Record.{lanesOf};
 
 
 fn say(line: &[u8]) {
@@ -176,7 +177,7 @@ fn say_refusal(why: Refusal) {
 
 // Runs a fresh job on the rows of standard input.
 fn run_job(job: Job, row: &mut [u8], out: &mut [u8], work: &mut [u32])
-    requires { ⌜ (rowBytes (job .plan .source .width) ≤ length (now row)) × (rowBytes (job .plan .target .width) ≤ length (now out)) ⌝ }
+    requires { ⌜ (rowBytes (lanesOf (job .plan)) (job .plan .source .width) ≤ length (now row)) × (rowBytes (lanesOf (job .plan)) (job .plan .target .width) ≤ length (now out)) ⌝ }
 {
     let w = 4 * job.plan.source.width as usize;
     let m = 4 * job.plan.target.width as usize;

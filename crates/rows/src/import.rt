@@ -15,7 +15,7 @@ ghost use mathlib.Core.Path.{_≡_};
 ghost use Prim.Native.Nat.{ℕ, _+_, _*_, _/_, _≤_, _<_};
 ghost use lib.ListN.{length, set};
 ghost use Rattle.arithmetic.specs.Word.{wrapAdd, wrapMul};
-ghost use Rattle.pixels.specs.Sizes.{maxSide, lanes, halfValues, badSide};
+ghost use Rattle.pixels.specs.Sizes.{maxSide, pixelLanes, halfValues, badSide};
 ghost use Rattle.pixels.specs.Refusals.{bufferIf};
 ghost use Rattle.pixels.specs.Lanes.{matted};
 ghost use Rattle.rows.specs.Done.{doneNumber};
@@ -58,7 +58,7 @@ fn add4(x: Quad, y: Quad) -> Quad
 // What stands at `pa` itself is a product that nobody reads.
 fn read_matted(row: &[u8], x: usize, pa: usize) -> Quad
     requires { ⌜ PixelAsks (now row) x ⌝ }
-    requires { ⌜ pa < lanes ⌝ }
+    requires { ⌜ pa < pixelLanes ⌝ }
     ensures { λ r. ⌜ Four (λ k. at r k ≡ mattedAt (now (row .entry)) pa k x) ⌝ }
 {
     let i = 4 * x;
@@ -119,7 +119,7 @@ struct Gathered {
 
 // Sums pixels from `from` on until they make `need`, m each; `last` and `base` are the last pixel. Bytes in their order, the alpha apart.
 fn gather(row: &[u8], m: usize, need: usize, from: usize, pa: usize) -> Gathered
-    requires { ⌜ GatherAsks (now row) (length (now row) / lanes) m need from pa ⌝ }
+    requires { ⌜ GatherAsks (now row) (length (now row) / pixelLanes) m need from pa ⌝ }
     ensures { λ r. ⌜ Gathers (now (row .entry)) m need from pa (r .sum) (r .last) (r .alpha) (r .base) (r .next) (r .got) ⌝ }
 {
     let mut sum = zero4();
@@ -215,8 +215,8 @@ fn make_column(
 
 // Stores the four values of column j.
 fn put4(half: &mut [u32], j: usize, v: Quad)
-    requires { ⌜ (lanes * j + lanes ≤ length (now half)) × (j < maxSide) ⌝ }
-    ensures { λ _. ⌜ now (half .exit) ≡ set (set (set (set (now (half .entry)) (lanes * j) (v .a)) (lanes * j + 1) (v .b)) (lanes * j + 2) (v .c)) (lanes * j + 3) (v .d) ⌝ }
+    requires { ⌜ (pixelLanes * j + pixelLanes ≤ length (now half)) × (j < maxSide) ⌝ }
+    ensures { λ _. ⌜ now (half .exit) ≡ set (set (set (set (now (half .entry)) (pixelLanes * j) (v .a)) (pixelLanes * j + 1) (v .b)) (pixelLanes * j + 2) (v .c)) (pixelLanes * j + 3) (v .d) ⌝ }
 {
     let i = 4 * j;
     half[i] = v.a;
@@ -229,7 +229,7 @@ fn put4(half: &mut [u32], j: usize, v: Quad)
 fn shrink_row(row: &[u8], n: usize, m: usize, p: Places, half: &mut [u32])
     requires { ⌜ RowAsks (now row) (now half) n m p ⌝ }
     requires { ⌜ m ≤ n ⌝ }
-    ensures { λ _. ⌜ now (half .exit) ≡ written (halfValues m) (rowValue (laneBytes p (now (row .entry))) n m) (now (half .entry)) ⌝ }
+    ensures { λ _. ⌜ now (half .exit) ≡ written (halfValues pixelLanes m) (rowValue pixelLanes (laneBytes p (now (row .entry))) n m) (now (half .entry)) ⌝ }
 {
     let scale = frac(1, m as u32);
     let mut x = 0usize;
@@ -286,8 +286,8 @@ fn second(n: usize) -> usize
 
 // One column on: by `step` of the parts, into the next pixel where the left one has fewer.
 fn advance(row: &[u8], span: u32, step: u32, s: Stand, p: Places) -> Stand
-    requires { ⌜ AdvanceAsks (now row) (length (now row) / lanes) span step (s .left) (s .right) (s .x) (s .acc) p ⌝ }
-    ensures { λ r. ⌜ Advances (now (row .entry)) (length (now (row .entry)) / lanes) span step p (s .x) (s .acc) (r .left) (r .right) (r .x) (r .acc) ⌝ }
+    requires { ⌜ AdvanceAsks (now row) (length (now row) / pixelLanes) span step (s .left) (s .right) (s .x) (s .acc) p ⌝ }
+    ensures { λ r. ⌜ Advances (now (row .entry)) (length (now (row .entry)) / pixelLanes) span step p (s .x) (s .acc) (r .left) (r .right) (r .x) (r .acc) ⌝ }
 {
     let right = s.right;
     if s.acc < step {
@@ -312,7 +312,7 @@ fn advance(row: &[u8], span: u32, step: u32, s: Stand, p: Places) -> Stand
 fn grow_row(row: &[u8], n: usize, m: usize, p: Places, half: &mut [u32])
     requires { ⌜ RowAsks (now row) (now half) n m p ⌝ }
     requires { ⌜ n < m ⌝ }
-    ensures { λ _. ⌜ now (half .exit) ≡ written (halfValues m) (rowValue (laneBytes p (now (row .entry))) n m) (now (half .entry)) ⌝ }
+    ensures { λ _. ⌜ now (half .exit) ≡ written (halfValues pixelLanes m) (rowValue pixelLanes (laneBytes p (now (row .entry))) n m) (now (half .entry)) ⌝ }
 {
     let span = (m - 1) as u32;
     let step = (n - 1) as u32;
@@ -339,7 +339,7 @@ fn grow_row(row: &[u8], n: usize, m: usize, p: Places, half: &mut [u32])
 // Every column, either way.
 fn write_row(row: &[u8], n: usize, m: usize, p: Places, half: &mut [u32])
     requires { ⌜ RowAsks (now row) (now half) n m p ⌝ }
-    ensures { λ _. ⌜ now (half .exit) ≡ written (halfValues m) (rowValue (laneBytes p (now (row .entry))) n m) (now (half .entry)) ⌝ }
+    ensures { λ _. ⌜ now (half .exit) ≡ written (halfValues pixelLanes m) (rowValue pixelLanes (laneBytes p (now (row .entry))) n m) (now (half .entry)) ⌝ }
 {
     if m <= n {
         shrink_row(row, n, m, p, half);
@@ -367,7 +367,7 @@ pub fn import_row(
     half: &mut [u32],
 ) -> Done
     ensures number { λ r. ⌜ doneNumber r ≡ importNumber «crop_width» «target_width» (length (now (row .entry))) (length (now (half .entry))) ⌝ }
-    ensures half { λ _. ⌜ now (half .exit) ≡ bufferIf (importNumber «crop_width» «target_width» (length (now (row .entry))) (length (now (half .entry)))) (written (halfValues «target_width») (rowValue (matted layout (now (row .entry))) «crop_width» «target_width») (now (half .entry))) (now (half .entry)) ⌝ }
+    ensures half { λ _. ⌜ now (half .exit) ≡ bufferIf (importNumber «crop_width» «target_width» (length (now (row .entry))) (length (now (half .entry)))) (written (halfValues pixelLanes «target_width») (rowValue pixelLanes (matted layout (now (row .entry))) «crop_width» «target_width») (now (half .entry))) (now (half .entry)) ⌝ }
 {
     if bad_width(crop_width) {
         return Done::Refused(Refusal::InvalidDimensions);

@@ -5,7 +5,7 @@ use mathlib.Core.Bool.{true, false}
 use borrow.Author.Tests.{lt-ltb, le-ltb}
 use Rattle.pixels.specs.declared.Refusal.the-variants.{InvalidDimensions, WorkLength}
 use Rattle.pixels.specs.Refusals.{number}
-use Rattle.pixels.specs.Sizes.{workValues, badSide}
+use Rattle.pixels.specs.Sizes.{pixelLanes, workValues, badSide}
 use Rattle.rows_adding.specs.Adding.{addNumber}
 
 -- ---- the numbers of add_halves
@@ -14,10 +14,10 @@ module _ (m room : ℕ) where
   unfolding addNumber
   add-width e = simp e
 
-  pub add-room : badSide m ≡ false → room < workValues m → addNumber m room ≡ number WorkLength
+  pub add-room : badSide m ≡ false → room < workValues pixelLanes m → addNumber m room ≡ number WorkLength
   unfolding addNumber
-  add-room e l = simp (e, lt-ltb room (workValues m) l)
+  add-room e l = simp (e, lt-ltb room (workValues pixelLanes m) l)
 
-  pub add-passes : badSide m ≡ false → workValues m ≤ room → addNumber m room ≡ 0
+  pub add-passes : badSide m ≡ false → workValues pixelLanes m ≤ room → addNumber m room ≡ 0
   unfolding addNumber
-  add-passes e l = simp (e, le-ltb room (workValues m) l)
+  add-passes e l = simp (e, le-ltb room (workValues pixelLanes m) l)

@@ -3,9 +3,9 @@ use Prim.Native.Nat.{ℕ}
 use lib.Dec.{ltb}
 use Rattle.pixels.specs.declared.Refusal.the-variants.{InvalidDimensions, WorkLength}
 use Rattle.pixels.specs.Refusals.{refusedIf, firstOf}
-use Rattle.pixels.specs.Sizes.{workValues, badSide}
+use Rattle.pixels.specs.Sizes.{pixelLanes, workValues, badSide}
 
 -- the second half added to the first, of a target m wide, in `room` work values
 unfoldable pub addNumber : ℕ → ℕ → ℕ
 addNumber m room =
-    firstOf (refusedIf (badSide m) InvalidDimensions) (refusedIf (ltb room (workValues m)) WorkLength)
+    firstOf (refusedIf (badSide m) InvalidDimensions) (refusedIf (ltb room (workValues pixelLanes m)) WorkLength)

@@ -1,25 +1,16 @@
 // A crop row that came in is added to the rows before it (document 01, "A row comes in"; the Rust: the accumulation of Rescaler::import_row).
-use pixels::MAX_DIMENSION;
 use pixels::Refusal;
+use pixels::bad_side;
 use rows::Done;
 use std::num::wrapping_add_u32;
 ghost use mathlib.Core.Path.{_≡_};
 ghost use Prim.Native.Nat.{_+_, _≤_};
 ghost use lib.ListN.{length};
-ghost use Rattle.pixels.specs.Sizes.{halfValues, badSide};
+ghost use Rattle.pixels.specs.Sizes.{pixelLanes, halfValues};
 ghost use Rattle.pixels.specs.Refusals.{bufferIf};
 ghost use Rattle.rows.specs.Done.{doneNumber};
 ghost use Rattle.rows.specs.WorkRows.{added};
 ghost use Rattle.rows_adding.specs.Adding.{addNumber};
-
-fn bad_width(width: u32) -> bool
-    ensures { λ r. ⌜ r ≡ badSide width ⌝ }
-{
-    if width == 0 {
-        return true;
-    }
-    width > MAX_DIMENSION
-}
 
 fn add_to_first(work: &mut [u32], w: usize)
     requires { ⌜ w + w ≤ length (now work) ⌝ }
@@ -36,9 +27,9 @@ fn add_to_first(work: &mut [u32], w: usize)
 // Rules out: a sum that saturates; the last value left out; the sum put into the second half.
 pub fn add_halves(target_width: u32, work: &mut [u32]) -> Done
     ensures number { λ r. ⌜ doneNumber r ≡ addNumber «target_width» (length (now (work .entry))) ⌝ }
-    ensures work { λ _. ⌜ now (work .exit) ≡ bufferIf (addNumber «target_width» (length (now (work .entry)))) (added (halfValues «target_width») (now (work .entry))) (now (work .entry)) ⌝ }
+    ensures work { λ _. ⌜ now (work .exit) ≡ bufferIf (addNumber «target_width» (length (now (work .entry)))) (added (halfValues pixelLanes «target_width») (now (work .entry))) (now (work .entry)) ⌝ }
 {
-    if bad_width(target_width) {
+    if bad_side(target_width as u64) {
         return Done::Refused(Refusal::InvalidDimensions);
     }
     let w = 4 * target_width as usize;

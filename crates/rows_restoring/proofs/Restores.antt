@@ -17,7 +17,7 @@ use Rattle.arithmetic.proofs.Tables.{getD-tabulate, tabulate-cong, tabulate-is}
 use Rattle.arithmetic.proofs.Mattes.{argb-opaque, pixel-lane}
 use Rattle.pixels.specs.declared.PixelLayout.{PixelLayout}
 use Rattle.pixels.specs.declared.PixelLayout.the-variants.{Rgba8, Argb8, Bgra8}
-use Rattle.pixels.specs.Sizes.{lanes, rowBytes}
+use Rattle.pixels.specs.Sizes.{pixelLanes, rowBytes}
 use Rattle.pixels.specs.Layout.{alphaLane, placeOf, alphaAt, packedByte}
 use Rattle.pixels.specs.Lanes.{restoredPixel, restoredPlace}
 use Rattle.pixels_alpha.specs.Alpha.{someClear, hasAlpha}
@@ -28,22 +28,22 @@ use Rattle.rows_restoring.specs.Pixelwise.{wordAt, restoredAt, putLanes,
 use Rattle.arithmetic.proofs.Stores.{Stored, none-stored, store, keep, place, ahead}
 
 -- ---- the scaler's own order
-own-place : (k : ℕ) → k < lanes → placeOf Bgra8 k ≡ k
+own-place : (k : ℕ) → k < pixelLanes → placeOf Bgra8 k ≡ k
 own-place = each-lane (λ k. placeOf Bgra8 k ≡ k) refl refl refl refl
 
 -- ---- four lanes stored
-pub put-next : {f : ℕ → ℕ} {s₀ s : List ℕ} {w : ℕ} (v : ℕ → ℕ) (j : ℕ) → Stored f s₀ s w (lanes * j) → lanes * j + lanes ≤ w → ((k : ℕ) → k < lanes → v k ≡ f (lanes * j + k))
-    → Stored f s₀ (putLanes s (lanes * j) v) w (lanes * (j + 1))
+pub put-next : {f : ℕ → ℕ} {s₀ s : List ℕ} {w : ℕ} (v : ℕ → ℕ) (j : ℕ) → Stored f s₀ s w (pixelLanes * j) → pixelLanes * j + pixelLanes ≤ w → ((k : ℕ) → k < pixelLanes → v k ≡ f (pixelLanes * j + k))
+    → Stored f s₀ (putLanes s (pixelLanes * j) v) w (pixelLanes * (j + 1))
 unfolding putLanes
 put-next {f} v j i h e =
-    let first : v 0 ≡ f (lanes * j) = e 0 (omega arith) ∙ ap f (add-zero (lanes * j)) in
+    let first : v 0 ≡ f (pixelLanes * j) = e 0 (omega arith) ∙ ap f (add-zero (pixelLanes * j)) in
     let a = store i (omega arith) first in
-    let b = place (store a (omega arith) (e 1 (omega arith))) (lanes * j + 2) (omega arith) in
-    let c = place (store b (omega arith) (e 2 (omega arith))) (lanes * j + 3) (omega arith) in
-    place (store c (omega arith) (e 3 (omega arith))) (lanes * (j + 1)) (omega arith)
+    let b = place (store a (omega arith) (e 1 (omega arith))) (pixelLanes * j + 2) (omega arith) in
+    let c = place (store b (omega arith) (e 2 (omega arith))) (pixelLanes * j + 3) (omega arith) in
+    place (store c (omega arith) (e 3 (omega arith))) (pixelLanes * (j + 1)) (omega arith)
 
 -- the same lanes again
-pub put-same : (s : List ℕ) (x : ℕ) (v : ℕ → ℕ) → ((k : ℕ) → k < lanes → v k ≡ getD s (x + k) 0) → s ≡ putLanes s x v
+pub put-same : (s : List ℕ) (x : ℕ) (v : ℕ → ℕ) → ((k : ℕ) → k < pixelLanes → v k ≡ getD s (x + k) 0) → s ≡ putLanes s x v
 unfolding putLanes
 put-same s x v e =
     let first : v 0 ≡ getD s x 0 = e 0 (omega arith) ∙ ap (λ (t : ℕ). getD s t 0) (add-zero x) in
@@ -80,7 +80,7 @@ pixel-done s x {w} {n} e m h p =
 
 -- an opaque pixel is restored already
 module _ (s : List ℕ) (x : ℕ) (bytes : (y : ℕ) → getD s y 0 < 256) (opaque : getD s (x + 3) 0 ≡ 255) where
-  small : (k : ℕ) → k < lanes → getD s (x + k) 0 ≤ 255
+  small : (k : ℕ) → k < pixelLanes → getD s (x + k) 0 ≤ 255
   small k l = omega (arith, bytes (x + k))
 
   opaque-word : restoredAt s x ≡ wordAt s x
@@ -88,7 +88,7 @@ module _ (s : List ℕ) (x : ℕ) (bytes : (y : ℕ) → getD s y 0 < 256) (opaq
   opaque-word =
       argb-opaque (wordAt s x) true (pixel-lane (λ k. getD s (x + k) 0) small 3 (omega arith) ∙ opaque)
 
-  opaque-lane : (k : ℕ) → k < lanes → laneOf (restoredAt s x) k ≡ getD s (x + k) 0
+  opaque-lane : (k : ℕ) → k < pixelLanes → laneOf (restoredAt s x) k ≡ getD s (x + k) 0
   unfolding wordAt
   opaque-lane k l = ap (λ (t : ℕ). laneOf t k) opaque-word ∙ pixel-lane (λ i. getD s (x + i) 0) small k l
 
@@ -100,106 +100,106 @@ module _ (s : List ℕ) (x : ℕ) (bytes : (y : ℕ) → getD s y 0 < 256) (opaq
 
 -- ---- the loop that restores: j pixels of m are restored, and the flag is theirs
 pub record Restoring (s₀ s : List ℕ) (m j : ℕ) (flag : Bool) : Type 0 where
-  pub bytes : Stored (restoredPlace Bgra8 (λ x. getD s₀ x 0)) s₀ s (rowBytes m) (lanes * j)
+  pub bytes : Stored (restoredPlace Bgra8 (λ x. getD s₀ x 0)) s₀ s (rowBytes pixelLanes m) (pixelLanes * j)
   pub flag-is : flag ≡ clearAfter s₀ j
 
-pub restore-first : (s : List ℕ) (m : ℕ) → length s ≡ rowBytes m → Restoring s s m 0 false
+pub restore-first : (s : List ℕ) (m : ℕ) → length s ≡ rowBytes pixelLanes m → Restoring s s m 0 false
 unfolding clearAfter
 restore-first s m e =
     record { bytes = none-stored (restoredPlace Bgra8 (λ x. getD s x 0)) (omega arith); flag-is = sym (clear-none _) }
 
 module _ {s₀ s : List ℕ} {m j : ℕ} {flag : Bool} (i : Restoring s₀ s m j flag) where
-  pixel-is : restoredAt s (lanes * j) ≡ restoredPixel (λ x. getD s₀ x 0) j
+  pixel-is : restoredAt s (pixelLanes * j) ≡ restoredPixel (λ x. getD s₀ x 0) j
   unfolding restoredAt wordAt restoredPixel pixelOf
   pixel-is =
       ap (λ (t : ℕ). multArgb t true)
-      (omega (arith, ahead (i .bytes) (lanes * j + 0) (omega arith), ahead (i .bytes) (lanes * j + 1) (omega arith), ahead (i .bytes) (lanes * j + 2) (omega arith), ahead (i .bytes) (lanes * j + 3) (omega arith)))
+      (omega (arith, ahead (i .bytes) (pixelLanes * j + 0) (omega arith), ahead (i .bytes) (pixelLanes * j + 1) (omega arith), ahead (i .bytes) (pixelLanes * j + 2) (omega arith), ahead (i .bytes) (pixelLanes * j + 3) (omega arith)))
 
-  lane-is : (k : ℕ) → k < lanes → laneOf (restoredAt s (lanes * j)) k ≡ restoredPlace Bgra8 (λ x. getD s₀ x 0) (lanes * j + k)
+  lane-is : (k : ℕ) → k < pixelLanes → laneOf (restoredAt s (pixelLanes * j)) k ≡ restoredPlace Bgra8 (λ x. getD s₀ x 0) (pixelLanes * j + k)
   unfolding restoredPlace
   lane-is k l =
       ap (λ (t : ℕ). laneOf t k) pixel-is
       ∙ ap (laneOf (restoredPixel (λ x. getD s₀ x 0) j)) (sym (own-place k l))
       ∙ sym (packed-byte Bgra8 (restoredPixel (λ x. getD s₀ x 0)) j k l)
 
-  pub restore-turn : (b r : Bool) (s′ : List ℕ) → j < m → b ≡ not (eqb (laneOf (restoredAt s (lanes * j)) alphaLane) 255)
-      → s′ ≡ putLanes s (lanes * j) (laneOf (restoredAt s (lanes * j))) → r ≡ (flag || b)
+  pub restore-turn : (b r : Bool) (s′ : List ℕ) → j < m → b ≡ not (eqb (laneOf (restoredAt s (pixelLanes * j)) alphaLane) 255)
+      → s′ ≡ putLanes s (pixelLanes * j) (laneOf (restoredAt s (pixelLanes * j))) → r ≡ (flag || b)
       → Restoring s₀ s′ m (j + 1) r
   unfolding clearAfter someClear
   restore-turn b r s′ t f p q =
       record {
-        bytes = rw p (put-next (laneOf (restoredAt s (lanes * j))) j (i .bytes) (omega arith) lane-is);
+        bytes = rw p (put-next (laneOf (restoredAt s (pixelLanes * j))) j (i .bytes) (omega arith) lane-is);
         flag-is = rw add-one (q ∙ ap₂ _||_ (i .flag-is) (f ∙ ap (λ (t : ℕ). not (eqb (laneOf t alphaLane) 255)) pixel-is));
       }
 
 -- ---- the byte order
-pub ordered-byte : (l : PixelLayout) (s : List ℕ) (j k : ℕ) → k < lanes → orderedByte l s (lanes * j + k) ≡ getD s (lanes * j + placeOf l k) 0
+pub ordered-byte : (l : PixelLayout) (s : List ℕ) (j k : ℕ) → k < pixelLanes → orderedByte l s (pixelLanes * j + k) ≡ getD s (pixelLanes * j + placeOf l k) 0
 unfolding orderedByte
 ordered-byte l s j k h =
-    let q : (lanes * j + k) / lanes ≡ j = omega arith in
-    let r : (lanes * j + k) % lanes ≡ k = omega arith in
+    let q : (pixelLanes * j + k) / pixelLanes ≡ j = omega arith in
+    let r : (pixelLanes * j + k) % pixelLanes ≡ k = omega arith in
     rw (q, r)
 
 -- j pixels of m stand in the order of a layout
 pub record Ordered (l : PixelLayout) (s₀ s : List ℕ) (m j : ℕ) : Type 0 where
-  pub bytes : Stored (orderedByte l s₀) s₀ s (rowBytes m) (lanes * j)
+  pub bytes : Stored (orderedByte l s₀) s₀ s (rowBytes pixelLanes m) (pixelLanes * j)
 
-pub order-first : (l : PixelLayout) (s : List ℕ) (m : ℕ) → length s ≡ rowBytes m → Ordered l s s m 0
+pub order-first : (l : PixelLayout) (s : List ℕ) (m : ℕ) → length s ≡ rowBytes pixelLanes m → Ordered l s s m 0
 order-first l s m e = record { bytes = none-stored (orderedByte l s) (omega arith) }
 
 module _ {s₀ s : List ℕ} {m j : ℕ} where
-  pub swap-turn : Ordered Rgba8 s₀ s m j → j < m → Ordered Rgba8 s₀ (set (set s (lanes * j) (getD s (lanes * j + 2) 0)) (lanes * j + 2) (getD s (lanes * j) 0)) m (j + 1)
+  pub swap-turn : Ordered Rgba8 s₀ s m j → j < m → Ordered Rgba8 s₀ (set (set s (pixelLanes * j) (getD s (pixelLanes * j + 2) 0)) (pixelLanes * j + 2) (getD s (pixelLanes * j) 0)) m (j + 1)
   swap-turn i t =
-      let at : (x : ℕ) → lanes * j ≤ x → getD s x 0 ≡ getD s₀ x 0 = ahead (i .bytes) in
-      let first : getD s (lanes * j + 2) 0 ≡ orderedByte Rgba8 s₀ (lanes * j) = at (lanes * j + 2) (omega arith) ∙ sym (ordered-byte Rgba8 s₀ j 0 (omega arith)) ∙ ap (orderedByte Rgba8 s₀) (add-zero (lanes * j)) in
-      let third : getD s (lanes * j) 0 ≡ orderedByte Rgba8 s₀ (lanes * j + 2) = at (lanes * j) (omega arith) ∙ ap (λ (x : ℕ). getD s₀ x 0) (sym (add-zero (lanes * j))) ∙ sym (ordered-byte Rgba8 s₀ j 2 (omega arith)) in
+      let at : (x : ℕ) → pixelLanes * j ≤ x → getD s x 0 ≡ getD s₀ x 0 = ahead (i .bytes) in
+      let first : getD s (pixelLanes * j + 2) 0 ≡ orderedByte Rgba8 s₀ (pixelLanes * j) = at (pixelLanes * j + 2) (omega arith) ∙ sym (ordered-byte Rgba8 s₀ j 0 (omega arith)) ∙ ap (orderedByte Rgba8 s₀) (add-zero (pixelLanes * j)) in
+      let third : getD s (pixelLanes * j) 0 ≡ orderedByte Rgba8 s₀ (pixelLanes * j + 2) = at (pixelLanes * j) (omega arith) ∙ ap (λ (x : ℕ). getD s₀ x 0) (sym (add-zero (pixelLanes * j))) ∙ sym (ordered-byte Rgba8 s₀ j 2 (omega arith)) in
       let a = store (i .bytes) (omega arith) first in
-      let b = place (keep a (omega arith) (sym (ordered-byte Rgba8 s₀ j 1 (omega arith)))) (lanes * j + 2) (omega arith) in
-      let c = place (store b (omega arith) third) (lanes * j + 3) (omega arith) in
-      record { bytes = place (keep c (omega arith) (sym (ordered-byte Rgba8 s₀ j 3 (omega arith)))) (lanes * (j + 1)) (omega arith) }
+      let b = place (keep a (omega arith) (sym (ordered-byte Rgba8 s₀ j 1 (omega arith)))) (pixelLanes * j + 2) (omega arith) in
+      let c = place (store b (omega arith) third) (pixelLanes * j + 3) (omega arith) in
+      record { bytes = place (keep c (omega arith) (sym (ordered-byte Rgba8 s₀ j 3 (omega arith)))) (pixelLanes * (j + 1)) (omega arith) }
 
   pub reverse-turn : Ordered Argb8 s₀ s m j → j < m
-      → Ordered Argb8 s₀ (set (set (set (set s (lanes * j) (getD s (lanes * j + 3) 0)) (lanes * j + 1) (getD s (lanes * j + 2) 0)) (lanes * j + 2) (getD s (lanes * j + 1) 0)) (lanes * j + 3) (getD s (lanes * j) 0)) m (j + 1)
+      → Ordered Argb8 s₀ (set (set (set (set s (pixelLanes * j) (getD s (pixelLanes * j + 3) 0)) (pixelLanes * j + 1) (getD s (pixelLanes * j + 2) 0)) (pixelLanes * j + 2) (getD s (pixelLanes * j + 1) 0)) (pixelLanes * j + 3) (getD s (pixelLanes * j) 0)) m (j + 1)
   reverse-turn i t =
-      let at : (x : ℕ) → lanes * j ≤ x → getD s x 0 ≡ getD s₀ x 0 = ahead (i .bytes) in
-      let first : getD s (lanes * j + 3) 0 ≡ orderedByte Argb8 s₀ (lanes * j) = at (lanes * j + 3) (omega arith) ∙ sym (ordered-byte Argb8 s₀ j 0 (omega arith)) ∙ ap (orderedByte Argb8 s₀) (add-zero (lanes * j)) in
-      let last : getD s (lanes * j) 0 ≡ orderedByte Argb8 s₀ (lanes * j + 3) = at (lanes * j) (omega arith) ∙ ap (λ (x : ℕ). getD s₀ x 0) (sym (add-zero (lanes * j))) ∙ sym (ordered-byte Argb8 s₀ j 3 (omega arith)) in
+      let at : (x : ℕ) → pixelLanes * j ≤ x → getD s x 0 ≡ getD s₀ x 0 = ahead (i .bytes) in
+      let first : getD s (pixelLanes * j + 3) 0 ≡ orderedByte Argb8 s₀ (pixelLanes * j) = at (pixelLanes * j + 3) (omega arith) ∙ sym (ordered-byte Argb8 s₀ j 0 (omega arith)) ∙ ap (orderedByte Argb8 s₀) (add-zero (pixelLanes * j)) in
+      let last : getD s (pixelLanes * j) 0 ≡ orderedByte Argb8 s₀ (pixelLanes * j + 3) = at (pixelLanes * j) (omega arith) ∙ ap (λ (x : ℕ). getD s₀ x 0) (sym (add-zero (pixelLanes * j))) ∙ sym (ordered-byte Argb8 s₀ j 3 (omega arith)) in
       let a = store (i .bytes) (omega arith) first in
-      let b = place (store a (omega arith) (at (lanes * j + 2) (omega arith) ∙ sym (ordered-byte Argb8 s₀ j 1 (omega arith)))) (lanes * j + 2) (omega arith) in
-      let c = place (store b (omega arith) (at (lanes * j + 1) (omega arith) ∙ sym (ordered-byte Argb8 s₀ j 2 (omega arith)))) (lanes * j + 3) (omega arith) in
-      record { bytes = place (store c (omega arith) last) (lanes * (j + 1)) (omega arith) }
+      let b = place (store a (omega arith) (at (pixelLanes * j + 2) (omega arith) ∙ sym (ordered-byte Argb8 s₀ j 1 (omega arith)))) (pixelLanes * j + 2) (omega arith) in
+      let c = place (store b (omega arith) (at (pixelLanes * j + 1) (omega arith) ∙ sym (ordered-byte Argb8 s₀ j 2 (omega arith)))) (pixelLanes * j + 3) (omega arith) in
+      record { bytes = place (store c (omega arith) last) (pixelLanes * (j + 1)) (omega arith) }
 
 -- the scaler's own order
-pub ordered-same : (s : List ℕ) (m : ℕ) → length s ≡ rowBytes m → s ≡ tabulate (orderedByte Bgra8 s) (rowBytes m)
+pub ordered-same : (s : List ℕ) (m : ℕ) → length s ≡ rowBytes pixelLanes m → s ≡ tabulate (orderedByte Bgra8 s) (rowBytes pixelLanes m)
 unfolding orderedByte
 ordered-same s m e =
     tabulate-is (orderedByte Bgra8 s) s
     (λ x h.
-    let whole : lanes * (x / lanes) + x % lanes ≡ x = omega arith in
-    let own : placeOf Bgra8 (x % lanes) ≡ x % lanes = own-place (x % lanes) (omega arith) in
-    ap (λ (t : ℕ). getD s t 0) (sym whole) ∙ ap (λ (t : ℕ). getD s (lanes * (x / lanes) + t) 0) (sym own))
+    let whole : pixelLanes * (x / pixelLanes) + x % pixelLanes ≡ x = omega arith in
+    let own : placeOf Bgra8 (x % pixelLanes) ≡ x % pixelLanes = own-place (x % pixelLanes) (omega arith) in
+    ap (λ (t : ℕ). getD s t 0) (sym whole) ∙ ap (λ (t : ℕ). getD s (pixelLanes * (x / pixelLanes) + t) 0) (sym own))
     ∙ ap (tabulate (orderedByte Bgra8 s)) e
 
 -- ---- restored in the scaler's order, then put in a layout's, is restored and packed
-pub restored-ordered : (l : PixelLayout) (v : ℕ → ℕ) (m : ℕ) → tabulate (orderedByte l (tabulate (restoredPlace Bgra8 v) (rowBytes m))) (rowBytes m) ≡ tabulate (restoredPlace l v) (rowBytes m)
+pub restored-ordered : (l : PixelLayout) (v : ℕ → ℕ) (m : ℕ) → tabulate (orderedByte l (tabulate (restoredPlace Bgra8 v) (rowBytes pixelLanes m))) (rowBytes pixelLanes m) ≡ tabulate (restoredPlace l v) (rowBytes pixelLanes m)
 unfolding orderedByte restoredPlace packedByte
 restored-ordered l v m =
-    tabulate-cong _ _ (rowBytes m)
+    tabulate-cong _ _ (rowBytes pixelLanes m)
     (λ x h.
-    let small : x % lanes < lanes = omega arith in
-    let p : placeOf l (x % lanes) < lanes = place-lt l (x % lanes) small in
-    getD-tabulate (restoredPlace Bgra8 v) (rowBytes m) (lanes * (x / lanes) + placeOf l (x % lanes)) (omega arith)
-    ∙ packed-byte Bgra8 (restoredPixel v) (x / lanes) (placeOf l (x % lanes)) p
-    ∙ ap (laneOf (restoredPixel v (x / lanes))) (own-place (placeOf l (x % lanes)) p))
+    let small : x % pixelLanes < pixelLanes = omega arith in
+    let p : placeOf l (x % pixelLanes) < pixelLanes = place-lt l (x % pixelLanes) small in
+    getD-tabulate (restoredPlace Bgra8 v) (rowBytes pixelLanes m) (pixelLanes * (x / pixelLanes) + placeOf l (x % pixelLanes)) (omega arith)
+    ∙ packed-byte Bgra8 (restoredPixel v) (x / pixelLanes) (placeOf l (x % pixelLanes)) p
+    ∙ ap (laneOf (restoredPixel v (x / pixelLanes))) (own-place (placeOf l (x % pixelLanes)) p))
 
 -- and its alphas are the restored pixels'
-pub restored-flag : (l : PixelLayout) (s : List ℕ) (m : ℕ) → clearAfter s m ≡ hasAlpha l (tabulate (restoredPlace l (λ x. getD s x 0)) (rowBytes m)) m
+pub restored-flag : (l : PixelLayout) (s : List ℕ) (m : ℕ) → clearAfter s m ≡ hasAlpha l (tabulate (restoredPlace l (λ x. getD s x 0)) (rowBytes pixelLanes m)) m
 unfolding clearAfter hasAlpha restoredPlace
 restored-flag l s m =
     clear-cong _ _ m
     (λ i h.
-    let p : placeOf l alphaLane < lanes = place-lt l alphaLane (omega arith) in
+    let p : placeOf l alphaLane < pixelLanes = place-lt l alphaLane (omega arith) in
     sym
-    (getD-tabulate (restoredPlace l (λ x. getD s x 0)) (rowBytes m) (lanes * i + placeOf l alphaLane) (omega arith)
+    (getD-tabulate (restoredPlace l (λ x. getD s x 0)) (rowBytes pixelLanes m) (pixelLanes * i + placeOf l alphaLane) (omega arith)
     ∙ packed-byte l (restoredPixel (λ x. getD s x 0)) i (placeOf l alphaLane) p
     ∙ ap (laneOf (restoredPixel (λ x. getD s x 0) i)) (place-twice l alphaLane (omega arith))))

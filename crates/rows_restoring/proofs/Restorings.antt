@@ -10,7 +10,7 @@ use Rattle.pixels.specs.declared.PixelLayout.{PixelLayout}
 use Rattle.pixels.specs.declared.PixelLayout.the-variants.{Bgra8}
 use Rattle.pixels.specs.declared.Refusal.{Refusal}
 use Rattle.pixels.specs.Refusals.{number}
-use Rattle.pixels.specs.Sizes.{badSide, rowBytes}
+use Rattle.pixels.specs.Sizes.{pixelLanes, badSide, rowBytes}
 use Rattle.pixels.specs.Lanes.{restoredPlace}
 use Rattle.pixels.proofs.Numbers.{flagged-refused, flagged-accepted, buffer-refused, buffer-written}
 use Rattle.rows_restoring.specs.Restoring.{restoreNumber, restoredRow, restoredOut, rowFlag}
@@ -24,13 +24,13 @@ module _ (m outBytes : ℕ) where
   restore-wide e = simp e
 
   module _ (s : badSide m ≡ false) where
-    pub restore-length : (outBytes ≡ rowBytes m → ⊥) → restoreNumber m outBytes ≡ 4
+    pub restore-length : (outBytes ≡ rowBytes pixelLanes m → ⊥) → restoreNumber m outBytes ≡ 4
     unfolding restoreNumber
-    restore-length o = simp (s, ne-eqb outBytes (rowBytes m) o)
+    restore-length o = simp (s, ne-eqb outBytes (rowBytes pixelLanes m) o)
 
-    pub restore-passes : outBytes ≡ rowBytes m → restoreNumber m outBytes ≡ 0
+    pub restore-passes : outBytes ≡ rowBytes pixelLanes m → restoreNumber m outBytes ≡ 0
     unfolding restoreNumber
-    restore-passes o = simp (s, eq-eqb outBytes (rowBytes m) o)
+    restore-passes o = simp (s, eq-eqb outBytes (rowBytes pixelLanes m) o)
 
 -- ---- all three promises of a return
 module _ (l : PixelLayout) (m : ℕ) (out : List ℕ) where
@@ -40,7 +40,7 @@ module _ (l : PixelLayout) (m : ℕ) (out : List ℕ) where
   restore-refused why e = (sym e, (flagged-refused why _ _ e .1, buffer-refused why _ _ out e .1))
 
   pub restore-done : {flag : Bool} {lanes out′ : List ℕ} → restoreNumber m (length out) ≡ 0 → flag ≡ clearAfter out m
-      → lanes ≡ tabulate (restoredPlace Bgra8 (λ x. getD out x 0)) (rowBytes m) → out′ ≡ tabulate (orderedByte l lanes) (rowBytes m)
+      → lanes ≡ tabulate (restoredPlace Bgra8 (λ x. getD out x 0)) (rowBytes pixelLanes m) → out′ ≡ tabulate (orderedByte l lanes) (rowBytes pixelLanes m)
       → (0 ≡ restoreNumber m (length out)) × ((flag ≡ rowFlag l m out) × (out′ ≡ restoredOut l m out))
   unfolding restoredOut rowFlag restoredRow
   restore-done e f p q =

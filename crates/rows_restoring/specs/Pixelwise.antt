@@ -5,7 +5,7 @@ use mathlib.Core.List.{List}
 use lib.ListN.{getD, set}
 use Rattle.arithmetic.specs.Matte.{laneOf, pixelOf, multArgb}
 use Rattle.pixels.specs.declared.PixelLayout.{PixelLayout}
-use Rattle.pixels.specs.Sizes.{lanes}
+use Rattle.pixels.specs.Sizes.{pixelLanes}
 use Rattle.pixels.specs.Layout.{alphaLane, placeOf}
 use Rattle.pixels.specs.Lanes.{restoredPixel}
 use Rattle.pixels_alpha.specs.Alpha.{someClear}
@@ -24,7 +24,7 @@ putLanes s x v = set (set (set (set s x (v 0)) (x + 1) (v 1)) (x + 2) (v 2)) (x 
 
 -- byte x of a row of lanes B, G, R, A in the order of a layout
 unfoldable pub orderedByte : PixelLayout → List ℕ → ℕ → ℕ
-orderedByte layout s x = getD s (lanes * (x / lanes) + placeOf layout (x % lanes)) 0
+orderedByte layout s x = getD s (pixelLanes * (x / pixelLanes) + placeOf layout (x % pixelLanes)) 0
 
 -- whether some of m restored pixels isn't opaque
 unfoldable pub clearAfter : List ℕ → ℕ → Bool

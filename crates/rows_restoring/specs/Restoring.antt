@@ -9,7 +9,7 @@ use Rattle.arithmetic.specs.Table.{tabulate}
 use Rattle.pixels.specs.declared.PixelLayout.{PixelLayout}
 use Rattle.pixels.specs.declared.Refusal.the-variants.{InvalidDimensions, OutputLength}
 use Rattle.pixels.specs.Refusals.{number, refusedIf, firstOf, flagIf, bufferIf}
-use Rattle.pixels.specs.Sizes.{rowBytes, badSide}
+use Rattle.pixels.specs.Sizes.{pixelLanes, rowBytes, badSide}
 use Rattle.pixels.specs.Lanes.{restoredPlace}
 use Rattle.pixels_alpha.specs.Alpha.{hasAlpha}
 use Rattle.rows.specs.declared.Restored.{Restored}
@@ -27,11 +27,11 @@ restoredFlag (restored.Refused why) = false
 -- 1, then 4; 0 where the row is restored
 unfoldable pub restoreNumber : ℕ → ℕ → ℕ
 restoreNumber m outBytes =
-    firstOf (refusedIf (badSide m) InvalidDimensions) (refusedIf (not (eqb outBytes (rowBytes m))) OutputLength)
+    firstOf (refusedIf (badSide m) InvalidDimensions) (refusedIf (not (eqb outBytes (rowBytes pixelLanes m))) OutputLength)
 
 -- the row restored and packed
 unfoldable pub restoredRow : PixelLayout → ℕ → List ℕ → List ℕ
-restoredRow layout m out = tabulate (restoredPlace layout (λ x. getD out x 0)) (rowBytes m)
+restoredRow layout m out = tabulate (restoredPlace layout (λ x. getD out x 0)) (rowBytes pixelLanes m)
 
 -- the buffer, and the flag of what is in it
 unfoldable pub restoredOut : PixelLayout → ℕ → List ℕ → List ℕ

@@ -12,7 +12,7 @@ ghost use lib.Dec.{eqb};
 ghost use lib.ListN.{length, getD};
 ghost use Rattle.arithmetic.specs.Matte.{laneOf};
 ghost use Rattle.arithmetic.specs.Table.{tabulate};
-ghost use Rattle.pixels.specs.Sizes.{lanes, rowBytes, badSide};
+ghost use Rattle.pixels.specs.Sizes.{pixelLanes, rowBytes, badSide};
 ghost use Rattle.pixels.specs.Layout.{alphaLane};
 ghost use Rattle.pixels.specs.Lanes.{restoredPlace};
 ghost use Rattle.rows_restoring.specs.Restoring.{restoredNumber, restoredFlag, restoreNumber, restoredOut, rowFlag};
@@ -45,7 +45,7 @@ fn word(b: u8, g: u8, r: u8, a: u8) -> u32
 
 // Stores the lanes of a pixel from at on.
 fn put_word(out: &mut [u8], at: usize, argb: u32)
-    requires { ⌜ at + lanes ≤ length (now out) ⌝ }
+    requires { ⌜ at + pixelLanes ≤ length (now out) ⌝ }
     ensures { λ _. ⌜ now (out .exit) ≡ putLanes (now (out .entry)) at (laneOf argb) ⌝ }
 {
     out[at] = (argb % 256) as u8;
@@ -56,7 +56,7 @@ fn put_word(out: &mut [u8], at: usize, argb: u32)
 
 // Restores the pixel at `at`; whether its alpha isn't 255 then: a spill can change the alpha.
 fn restore_pixel(out: &mut [u8], at: usize) -> bool
-    requires { ⌜ at + lanes ≤ length (now out) ⌝ }
+    requires { ⌜ at + pixelLanes ≤ length (now out) ⌝ }
     ensures flag { λ r. ⌜ r ≡ not (eqb (laneOf (restoredAt (now (out .entry)) at) alphaLane) 255) ⌝ }
     ensures out { λ _. ⌜ now (out .exit) ≡ putLanes (now (out .entry)) at (laneOf (restoredAt (now (out .entry)) at)) ⌝ }
 {
@@ -70,9 +70,9 @@ fn restore_pixel(out: &mut [u8], at: usize) -> bool
 
 // Restores m pixels; whether some of them isn't opaque then.
 fn restore_lanes(out: &mut [u8], m: usize) -> bool
-    requires { ⌜ length (now out) ≡ rowBytes m ⌝ }
+    requires { ⌜ length (now out) ≡ rowBytes pixelLanes m ⌝ }
     ensures flag { λ r. ⌜ r ≡ clearAfter (now (out .entry)) m ⌝ }
-    ensures out { λ _. ⌜ now (out .exit) ≡ tabulate (restoredPlace PixelLayout.Bgra8 (λ x. getD (now (out .entry)) x 0)) (rowBytes m) ⌝ }
+    ensures out { λ _. ⌜ now (out .exit) ≡ tabulate (restoredPlace PixelLayout.Bgra8 (λ x. getD (now (out .entry)) x 0)) (rowBytes pixelLanes m) ⌝ }
 {
     let mut clear = false;
     let mut j = 0usize;
@@ -85,8 +85,8 @@ fn restore_lanes(out: &mut [u8], m: usize) -> bool
 
 // B, G, R, A to R, G, B, A.
 fn swap_lanes(out: &mut [u8], m: usize)
-    requires { ⌜ length (now out) ≡ rowBytes m ⌝ }
-    ensures { λ _. ⌜ now (out .exit) ≡ tabulate (orderedByte PixelLayout.Rgba8 (now (out .entry))) (rowBytes m) ⌝ }
+    requires { ⌜ length (now out) ≡ rowBytes pixelLanes m ⌝ }
+    ensures { λ _. ⌜ now (out .exit) ≡ tabulate (orderedByte PixelLayout.Rgba8 (now (out .entry))) (rowBytes pixelLanes m) ⌝ }
 {
     let mut j = 0usize;
     while j < m {
@@ -100,8 +100,8 @@ fn swap_lanes(out: &mut [u8], m: usize)
 
 // B, G, R, A to A, R, G, B.
 fn reverse_lanes(out: &mut [u8], m: usize)
-    requires { ⌜ length (now out) ≡ rowBytes m ⌝ }
-    ensures { λ _. ⌜ now (out .exit) ≡ tabulate (orderedByte PixelLayout.Argb8 (now (out .entry))) (rowBytes m) ⌝ }
+    requires { ⌜ length (now out) ≡ rowBytes pixelLanes m ⌝ }
+    ensures { λ _. ⌜ now (out .exit) ≡ tabulate (orderedByte PixelLayout.Argb8 (now (out .entry))) (rowBytes pixelLanes m) ⌝ }
 {
     let mut j = 0usize;
     while j < m {
@@ -119,8 +119,8 @@ fn reverse_lanes(out: &mut [u8], m: usize)
 
 // The byte order of a layout.
 fn order_lanes(layout: PixelLayout, out: &mut [u8], m: usize)
-    requires { ⌜ length (now out) ≡ rowBytes m ⌝ }
-    ensures { λ _. ⌜ now (out .exit) ≡ tabulate (orderedByte layout (now (out .entry))) (rowBytes m) ⌝ }
+    requires { ⌜ length (now out) ≡ rowBytes pixelLanes m ⌝ }
+    ensures { λ _. ⌜ now (out .exit) ≡ tabulate (orderedByte layout (now (out .entry))) (rowBytes pixelLanes m) ⌝ }
 {
     match layout {
         PixelLayout::Rgba8 => swap_lanes(out, m),

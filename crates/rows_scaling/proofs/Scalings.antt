@@ -12,7 +12,7 @@ use Rattle.arithmetic.specs.Weight.{span}
 use Rattle.pixels.specs.declared.Dimensions.{Dimensions}
 use Rattle.pixels.specs.declared.Refusal.{Refusal}
 use Rattle.pixels.specs.Refusals.{number, bufferIf}
-use Rattle.pixels.specs.Sizes.{badSize, sizeNumber, rowBytes, halfValues, workValues}
+use Rattle.pixels.specs.Sizes.{pixelLanes, badSize, sizeNumber, rowBytes, halfValues, workValues}
 use Rattle.pixels.proofs.Numbers.{number-pos, buffer-refused, buffer-written}
 use Rattle.pixels.proofs.Fitting.{size-bad, size-passes, size-sides, size-of}
 use Rattle.rows.specs.WorkRows.{byteOut, rowLeft}
@@ -44,37 +44,37 @@ module _ (crop target : Dimensions) (u y outBytes workCount : ℕ) where
     scale-target e = simp (size-passes crop c, size-bad target e)
 
     module _ (t : badSize target ≡ false) where
-      pub scale-length : (outBytes ≡ rowBytes (target .width) → ⊥) → scaleNumber crop target u y outBytes workCount ≡ 4
+      pub scale-length : (outBytes ≡ rowBytes pixelLanes (target .width) → ⊥) → scaleNumber crop target u y outBytes workCount ≡ 4
       unfolding scaleNumber
-      scale-length o = simp (size-passes crop c, size-passes target t, ne-eqb outBytes (rowBytes (target .width)) o)
+      scale-length o = simp (size-passes crop c, size-passes target t, ne-eqb outBytes (rowBytes pixelLanes (target .width)) o)
 
-      module _ (o : outBytes ≡ rowBytes (target .width)) where
-        pub scale-short : workCount < workValues (target .width) → scaleNumber crop target u y outBytes workCount ≡ 5
+      module _ (o : outBytes ≡ rowBytes pixelLanes (target .width)) where
+        pub scale-short : workCount < workValues pixelLanes (target .width) → scaleNumber crop target u y outBytes workCount ≡ 5
         unfolding scaleNumber
         scale-short k =
-            simp (size-passes crop c, size-passes target t, eq-eqb outBytes (rowBytes (target .width)) o, lt-ltb workCount (workValues (target .width)) k)
+            simp (size-passes crop c, size-passes target t, eq-eqb outBytes (rowBytes pixelLanes (target .width)) o, lt-ltb workCount (workValues pixelLanes (target .width)) k)
 
-        module _ (k : workValues (target .width) ≤ workCount) where
+        module _ (k : workValues pixelLanes (target .width) ≤ workCount) where
           pub scale-early : due (crop .height) (target .height) u y ≡ false → scaleNumber crop target u y outBytes workCount ≡ 9
           unfolding scaleNumber
           scale-early d =
-              simp (size-passes crop c, size-passes target t, eq-eqb outBytes (rowBytes (target .width)) o, le-ltb workCount (workValues (target .width)) k, d)
+              simp (size-passes crop c, size-passes target t, eq-eqb outBytes (rowBytes pixelLanes (target .width)) o, le-ltb workCount (workValues pixelLanes (target .width)) k, d)
 
           pub scale-passes : due (crop .height) (target .height) u y ≡ true → scaleNumber crop target u y outBytes workCount ≡ 0
           unfolding scaleNumber
           scale-passes d =
-              simp (size-passes crop c, size-passes target t, eq-eqb outBytes (rowBytes (target .width)) o, le-ltb workCount (workValues (target .width)) k, d)
+              simp (size-passes crop c, size-passes target t, eq-eqb outBytes (rowBytes pixelLanes (target .width)) o, le-ltb workCount (workValues pixelLanes (target .width)) k, d)
 
 -- ---- every test passed
 pub record Passed (crop target : Dimensions) (u y outBytes workCount : ℕ) : Type 0 where
   pub crop-fits : badSize crop ≡ false
   pub target-fits : badSize target ≡ false
-  pub out-exact : outBytes ≡ rowBytes (target .width)
-  pub work-enough : workValues (target .width) ≤ workCount
+  pub out-exact : outBytes ≡ rowBytes pixelLanes (target .width)
+  pub work-enough : workValues pixelLanes (target .width) ≤ workCount
   pub ready : due (crop .height) (target .height) u y ≡ true
 
 -- what the two kinds of rows are asked
-pub passed-room : {crop target : Dimensions} {u y : ℕ} {out work : List ℕ} → Passed crop target u y (length out) (length work) → ShrinkAsks work out (halfValues (target .width))
+pub passed-room : {crop target : Dimensions} {u y : ℕ} {out work : List ℕ} → Passed crop target u y (length out) (length work) → ShrinkAsks work out (halfValues pixelLanes (target .width))
 passed-room p = record { halves = omega (arith, p .work-enough); exact = p .out-exact }
 
 module _ {crop target : Dimensions} {u y outBytes workCount : ℕ} (p : Passed crop target u y outBytes workCount) where
@@ -112,8 +112,8 @@ module _ (crop target : Dimensions) (u y : ℕ) (out work : List ℕ) where
     passes = scale-passes crop target u y (length out) (length work) (p .crop-fits) (p .target-fits) (p .out-exact) (p .work-enough) (p .ready)
 
     pub scale-done : {out′ work′ : List ℕ}
-        → out′ ≡ tabulate (byteOut sp (crop .height) (target .height) (halfValues (target .width)) u y work) (halfValues (target .width))
-        → work′ ≡ rowLeft sp (crop .height) (target .height) (halfValues (target .width)) u y work
+        → out′ ≡ tabulate (byteOut sp (crop .height) (target .height) (halfValues pixelLanes (target .width)) u y work) (halfValues pixelLanes (target .width))
+        → work′ ≡ rowLeft sp (crop .height) (target .height) (halfValues pixelLanes (target .width)) u y work
         → (0 ≡ scaleNumber crop target u y (length out) (length work)) × ((out′ ≡ scaledOut crop target u y out work) × (work′ ≡ scaledWork crop target u y (length out) work))
     unfolding scaledOut scaledWork
     scale-done o k = (sym passes, (buffer-written _ _ out passes (rw e at o) .1, buffer-written _ _ work passes (rw e at k) .1))

@@ -10,7 +10,7 @@ use Rattle.arithmetic.specs.Weight.{span}
 use Rattle.pixels.specs.declared.Dimensions.{Dimensions}
 use Rattle.pixels.specs.declared.Refusal.the-variants.{OutputLength, WorkLength, NoneReady}
 use Rattle.pixels.specs.Refusals.{refusedIf, firstOf, bufferIf}
-use Rattle.pixels.specs.Sizes.{rowBytes, halfValues, workValues, sizeNumber}
+use Rattle.pixels.specs.Sizes.{pixelLanes, rowBytes, halfValues, workValues, sizeNumber}
 use Rattle.rows.specs.WorkRows.{byteOut, rowLeft}
 
 -- from 0 up to below room, x - from
@@ -29,20 +29,20 @@ unfoldable pub scaleNumber : Dimensions → Dimensions → ℕ → ℕ → ℕ �
 scaleNumber crop target u y outBytes workCount =
     firstOf (sizeNumber crop)
     (firstOf (sizeNumber target)
-    (firstOf (refusedIf (not (eqb outBytes (rowBytes (target .width)))) OutputLength)
-    (firstOf (refusedIf (ltb workCount (workValues (target .width))) WorkLength)
+    (firstOf (refusedIf (not (eqb outBytes (rowBytes pixelLanes (target .width)))) OutputLength)
+    (firstOf (refusedIf (ltb workCount (workValues pixelLanes (target .width))) WorkLength)
     (refusedIf (not (due (crop .height) (target .height) u y)) NoneReady))))
 
 -- the output: the row's lanes B, G, R, A, pixel after pixel, not yet restored
 unfoldable pub scaledOut : Dimensions → Dimensions → ℕ → ℕ → List ℕ → List ℕ → List ℕ
 scaledOut crop target u y out work =
     bufferIf (scaleNumber crop target u y (length out) (length work))
-    (tabulate (byteOut (span (crop .width) (target .width)) (crop .height) (target .height) (halfValues (target .width)) u y work) (halfValues (target .width)))
+    (tabulate (byteOut (span (crop .width) (target .width)) (crop .height) (target .height) (halfValues pixelLanes (target .width)) u y work) (halfValues pixelLanes (target .width)))
     out
 
 -- the work rows
 unfoldable pub scaledWork : Dimensions → Dimensions → ℕ → ℕ → ℕ → List ℕ → List ℕ
 scaledWork crop target u y outBytes work =
     bufferIf (scaleNumber crop target u y outBytes (length work))
-    (rowLeft (span (crop .width) (target .width)) (crop .height) (target .height) (halfValues (target .width)) u y work)
+    (rowLeft (span (crop .width) (target .width)) (crop .height) (target .height) (halfValues pixelLanes (target .width)) u y work)
     work

@@ -9,6 +9,7 @@ use Rattle.job.proofs.Views.{offer-went}
 use Rattle.job.proofs.Accepting.{Accepting, accepting-first, in-lent, row-long, room, in-range, accepting-full, accepting-ready, next-count, accepting-more}
 use Rattle.job.proofs.accept.Statement.{statement}
 use Rattle.job.proofs.accept.Tie as tie
+use Rattle.job.specs.Record.{lanesOf}
 
 abbrev Inv-loop : tie.InvT-loop
 Inv-loop j rows work₀ most stride i₀ work i = Accepting j rows work₀ most work i
@@ -51,7 +52,7 @@ add-row-in-2 c = let a = c .before .before .before .before .before .before .befo
 
 row-in-requires : tie.Need-row-in-requires Inv-loop μ-loop
 row-in-requires c κs = let a = c .before .before .before .before .before .before .before .before .args in
-    (offer-went (a .j) (a .rows .now) (a .work .now) (c .before .before .before .before .before .before .before .before .pre) .rules .sizes, ap length (row-part (a .rows .now) (a .j .plan .source .width) (c .before .before .before .loop .i)) ∙ row-long (a .j) (a .rows .now) (a .work .now) _ (c .before .before .before .before .before .before .before .before .pre) (c .before .before .before .before .before .most-rows .ensures) (c .before .before .before .loop .work) (c .before .before .before .loop .i) (c .before .before .before .loop .inv), room (a .j) (a .rows .now) (a .work .now) _ (c .before .before .before .before .before .before .before .before .pre) (c .before .before .before .before .before .most-rows .ensures) (c .before .before .before .loop .work) (c .before .before .before .loop .i) (c .before .before .before .loop .inv))
+    (offer-went (a .j) (a .rows .now) (a .work .now) (c .before .before .before .before .before .before .before .before .pre) .rules .sizes, ap length (row-part (lanesOf (a .j .plan)) (a .rows .now) (a .j .plan .source .width) (c .before .before .before .loop .i)) ∙ row-long (a .j) (a .rows .now) (a .work .now) _ (c .before .before .before .before .before .before .before .before .pre) (c .before .before .before .before .before .most-rows .ensures) (c .before .before .before .loop .work) (c .before .before .before .loop .i) (c .before .before .before .loop .inv), room (a .j) (a .rows .now) (a .work .now) _ (c .before .before .before .before .before .before .before .before .pre) (c .before .before .before .before .before .most-rows .ensures) (c .before .before .before .loop .work) (c .before .before .before .loop .i) (c .before .before .before .loop .inv))
 
 add-i : tie.Need-add-i Inv-loop μ-loop
 add-i c = let a = c .before .before .before .before .before .before .before .before .before .before .before .args in omega (arith, in-range (a .j) (a .rows .now) (a .work .now) _ (c .before .before .before .before .before .before .before .before .before .before .before .pre) (c .before .before .before .before .before .before .before .before .most-rows .ensures) (c .before .before .before .before .before .before .loop .work) (c .before .before .before .before .before .before .loop .i) (c .before .before .before .before .before .before .loop .inv))
@@ -70,7 +71,7 @@ loop-less c = search needs
 
 loop-again : tie.Need-loop-again Inv-loop μ-loop
 loop-again c = let a = c .before .before .before .before .before .before .before .before .before .before .before .before .before .before .before .before .args in
-    accepting-more (a .j) (a .rows .now) (a .work .now) _ (c .before .before .before .before .before .before .before .before .before .before .before .before .before .before .before .before .pre) (c .before .before .before .before .before .before .before .before .before .before .before .before .before .most-rows .ensures) (c .before .before .before .before .before .before .before .before .before .before .before .loop .work) (c .before .before .before .before .before .before .before .before .before .before .before .loop .i) (c .before .before .before .before .before .before .before .before .before .before .before .loop .inv) _ _ (row-part (a .rows .now) (a .j .plan .source .width) (c .before .before .before .before .before .before .before .before .before .before .before .loop .i)) (c .before .before .before .before .before .before .before .row-in .ensures) (c .before .before .before .before .before .before .before .row-in .kept .1 .1 .1 .0) (c .before .before .before .before .if1 .left) (rw (c .before .made .ensures) at (c .if2 .left))
+    accepting-more (a .j) (a .rows .now) (a .work .now) _ (c .before .before .before .before .before .before .before .before .before .before .before .before .before .before .before .before .pre) (c .before .before .before .before .before .before .before .before .before .before .before .before .before .most-rows .ensures) (c .before .before .before .before .before .before .before .before .before .before .before .loop .work) (c .before .before .before .before .before .before .before .before .before .before .before .loop .i) (c .before .before .before .before .before .before .before .before .before .before .before .loop .inv) _ _ (row-part (lanesOf (a .j .plan)) (a .rows .now) (a .j .plan .source .width) (c .before .before .before .before .before .before .before .before .before .before .before .loop .i)) (c .before .before .before .before .before .before .before .row-in .ensures) (c .before .before .before .before .before .before .before .row-in .kept .1 .1 .1 .0) (c .before .before .before .before .if1 .left) (rw (c .before .made .ensures) at (c .if2 .left))
 
 same-length : tie.Need-same-length Inv-loop μ-loop
 same-length c = (c .before .before .before .row-in) .kept .1 .1 .1 .0 ∙ (c .before .before .before .before .before .before .before .loop) .inv .long
@@ -78,7 +79,7 @@ same-length c = (c .before .before .before .row-in) .kept .1 .1 .1 .0 ∙ (c .be
 returns : tie.Need-returns Inv-loop μ-loop
 returns c = let a = c .before .before .before .before .before .before .before .before .before .before .before .before .args in
     let q = accepting-full (a .j) (a .rows .now) (a .work .now) _ (c .before .before .before .before .before .before .before .before .before .before .before .before .pre) (c .before .before .before .before .before .before .before .before .before .most-rows .ensures) (c .before .before .before .before .before .before .before .loop .work) (c .before .before .before .before .before .before .before .loop .i) (c .before .before .before .before .before .before .before .loop .inv) (c .if1 .taken) in
-    (q, next-count (a .j) (a .rows .now) (a .work .now) _ (c .before .before .before .before .before .before .before .before .before .before .before .before .pre) (c .before .before .before .before .before .before .before .before .before .most-rows .ensures) (c .before .before .before .before .before .before .before .loop .work) (c .before .before .before .before .before .before .before .loop .i) (c .before .before .before .before .before .before .before .loop .inv) _ _ (row-part (a .rows .now) (a .j .plan .source .width) (c .before .before .before .before .before .before .before .loop .i)) (c .before .before .before .row-in .ensures) q)
+    (q, next-count (a .j) (a .rows .now) (a .work .now) _ (c .before .before .before .before .before .before .before .before .before .before .before .before .pre) (c .before .before .before .before .before .before .before .before .before .most-rows .ensures) (c .before .before .before .before .before .before .before .loop .work) (c .before .before .before .before .before .before .before .loop .i) (c .before .before .before .before .before .before .before .loop .inv) _ _ (row-part (lanesOf (a .j .plan)) (a .rows .now) (a .j .plan .source .width) (c .before .before .before .before .before .before .before .loop .i)) (c .before .before .before .row-in .ensures) q)
 
 same-length-2 : tie.Need-same-length-2 Inv-loop μ-loop
 same-length-2 c = (c .before .before .before .before .before .before .before .row-in) .kept .1 .1 .1 .0 ∙ (c .before .before .before .before .before .before .before .before .before .before .before .loop) .inv .long
@@ -86,7 +87,7 @@ same-length-2 c = (c .before .before .before .before .before .before .before .ro
 returns-2 : tie.Need-returns-2 Inv-loop μ-loop
 returns-2 c = let a = c .before .before .before .before .before .before .before .before .before .before .before .before .before .before .before .before .args in
     let q = accepting-ready (a .j) (a .rows .now) (a .work .now) _ (c .before .before .before .before .before .before .before .before .before .before .before .before .before .before .before .before .pre) (c .before .before .before .before .before .before .before .before .before .before .before .before .before .most-rows .ensures) (c .before .before .before .before .before .before .before .before .before .before .before .loop .work) (c .before .before .before .before .before .before .before .before .before .before .before .loop .i) (c .before .before .before .before .before .before .before .before .before .before .before .loop .inv) (rw (c .before .made .ensures) at (c .if2 .taken)) in
-    (q, next-count (a .j) (a .rows .now) (a .work .now) _ (c .before .before .before .before .before .before .before .before .before .before .before .before .before .before .before .before .pre) (c .before .before .before .before .before .before .before .before .before .before .before .before .before .most-rows .ensures) (c .before .before .before .before .before .before .before .before .before .before .before .loop .work) (c .before .before .before .before .before .before .before .before .before .before .before .loop .i) (c .before .before .before .before .before .before .before .before .before .before .before .loop .inv) _ _ (row-part (a .rows .now) (a .j .plan .source .width) (c .before .before .before .before .before .before .before .before .before .before .before .loop .i)) (c .before .before .before .before .before .before .before .row-in .ensures) q)
+    (q, next-count (a .j) (a .rows .now) (a .work .now) _ (c .before .before .before .before .before .before .before .before .before .before .before .before .before .before .before .before .pre) (c .before .before .before .before .before .before .before .before .before .before .before .before .before .most-rows .ensures) (c .before .before .before .before .before .before .before .before .before .before .before .loop .work) (c .before .before .before .before .before .before .before .before .before .before .before .loop .i) (c .before .before .before .before .before .before .before .before .before .before .before .loop .inv) _ _ (row-part (lanesOf (a .j .plan)) (a .rows .now) (a .j .plan .source .width) (c .before .before .before .before .before .before .before .before .before .before .before .loop .i)) (c .before .before .before .before .before .before .before .row-in .ensures) q)
 
 pub accept-spec : {M : Type 1} → statement M
 accept-spec =

@@ -5,7 +5,7 @@ use Rattle.pixels_alpha.specs.Alpha.{hasAlpha}
 use Rattle.pixels.specs.Layout.{alphaLane}
 use borrow.Author.Needs.{needs}
 use Rattle.pixels_alpha.specs.Alpha.{someClear}
-use Rattle.pixels.specs.Sizes.{lanes}
+use Rattle.pixels.specs.Sizes.{pixelLanes}
 use lib.ListN.{length, getD}
 use native.Mathlib.Omega.{arith}
 use mathlib.Core.Bool.{false}
@@ -15,7 +15,7 @@ use Rattle.pixels_alpha.proofs.has_alpha.Statement.{statement}
 use Rattle.pixels_alpha.proofs.has_alpha.Tie as tie
 
 abbrev Inv-loop : tie.InvT-loop
-Inv-loop bytes a n i₀ i = (i ≤ n) × (someClear (λ j. getD bytes (lanes * j + a) 0) i ≡ false)
+Inv-loop bytes a n i₀ i = (i ≤ n) × (someClear (λ j. getD bytes (pixelLanes * j + a) 0) i ≡ false)
 
 abbrev μ-loop : tie.MeasureT-loop
 μ-loop bytes a n i₀ i = n - i
@@ -40,7 +40,7 @@ unfolding hasAlpha
 returns c = let g = c .before .before .before .before .before .before .args in
     let o = c .before .before .before .before .alpha-byte-offset in
     let i = c .before .before .before .loop .i in
-    let e = clear-at (λ j. getD (g .bytes .now) (lanes * j + o .result) 0) (length (g .bytes .now) / lanes) i (omega arith) (c .if1 .taken) in
+    let e = clear-at (λ j. getD (g .bytes .now) (pixelLanes * j + o .result) 0) (length (g .bytes .now) / pixelLanes) i (omega arith) (c .if1 .taken) in
     sym (rw (o .ensures) at e)
 
 add-i : tie.Need-add-i Inv-loop μ-loop
@@ -56,7 +56,7 @@ returns-2 : tie.Need-returns-2 Inv-loop μ-loop
 unfolding hasAlpha
 returns-2 c = let g = c .before .before .before .before .args in
     let o = c .before .before .alpha-byte-offset in
-    let e : c .before .loop .i ≡ length (g .bytes .now) / lanes = omega arith in
+    let e : c .before .loop .i ≡ length (g .bytes .now) / pixelLanes = omega arith in
     sym (rw (e, o .ensures) at (c .before .loop .inv .1))
 
 pub has-alpha-spec : {M : Type 1} → statement M

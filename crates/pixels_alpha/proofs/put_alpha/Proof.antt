@@ -3,7 +3,7 @@ use Rattle.pixels_alpha.proofs.Planes.{partly, partly-first, partly-tur
 use Rattle.pixels.proofs.Tabled.{place-lt}
 use Rattle.pixels_alpha.specs.Alpha.{withAlpha}
 use Rattle.pixels.specs.Layout.{alphaLane}
-use Rattle.pixels.specs.Sizes.{lanes}
+use Rattle.pixels.specs.Sizes.{pixelLanes}
 use borrow.Author.Needs.{needs}
 use Rattle.pixels_alpha.proofs.Planes.{partly}
 use lib.ListN.{length, getD, length-set}
@@ -47,7 +47,7 @@ loop-again : tie.Need-loop-again Inv-loop μ-loop
 loop-again c = let g = c .before .before .before .before .before .before .args in
     let o = c .before .before .before .alpha-byte-offset in
     let l = c .before .before .loop in
-    let small : o .result < lanes = omega (arith, o .ensures, place-lt (g .layout) alphaLane (omega arith)) in
+    let small : o .result < pixelLanes = omega (arith, o .ensures, place-lt (g .layout) alphaLane (omega arith)) in
     (omega arith, simp length-set (l .inv .1), partly-turn (o .result) small (g .pixels .now) (g .plane .now) (l .pixels) (l .i) (omega arith) (l .inv .2))
 
 same-length : tie.Need-same-length Inv-loop μ-loop
@@ -57,7 +57,7 @@ returns : tie.Need-returns Inv-loop μ-loop
 unfolding withAlpha
 returns c = let g = c .before .before .before .before .before .args in
     let o = c .before .before .alpha-byte-offset in
-    let small : o .result < lanes = omega (arith, o .ensures, place-lt (g .layout) alphaLane (omega arith)) in
+    let small : o .result < pixelLanes = omega (arith, o .ensures, place-lt (g .layout) alphaLane (omega arith)) in
     let e : c .before .loop .i ≡ length (g .plane .now) = omega arith in
     let d = partly-done (o .result) small (g .pixels .now) (g .plane .now) (c .before .loop .pixels) ((c .before .before .before .before .before .pre)) (c .before .loop .inv .1) (rw e at (c .before .loop .inv .2)) in
     rw (o .ensures) at d

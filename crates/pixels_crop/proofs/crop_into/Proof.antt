@@ -3,7 +3,7 @@ use Rattle.pixels_crop.proofs.Windows.{row-fits, row-part, stripe-lengt
 use Rattle.pixels_crop.specs.Crop.{windowOf, pictureRow}
 use borrow.Author.Needs.{needs}
 use Rattle.pixels_crop.specs.Crop.{croppedRows}
-use Rattle.pixels.specs.Sizes.{rowBytes}
+use Rattle.pixels.specs.Sizes.{pixelLanes, rowBytes}
 use lib.ListN.{length, drop}
 use native.Mathlib.Nat.{mul-le-mul-left}
 use native.Mathlib.Omega.{arith}
@@ -14,7 +14,7 @@ use Rattle.pixels_crop.proofs.crop_into.Statement.{statement}
 use Rattle.pixels_crop.proofs.crop_into.Tie as tie
 
 abbrev Inv-loop : tie.InvT-loop
-Inv-loop source rect pixels out₀ h i₀ out i = (i ≤ h) × (length out ≡ length out₀) × (out ≡ croppedRows pixels (source .width) rect i ++ drop (rowBytes (rect .width) * i) out₀)
+Inv-loop source rect pixels out₀ h i₀ out i = (i ≤ h) × (length out ≡ length out₀) × (out ≡ croppedRows pixels (source .width) rect i ++ drop (rowBytes pixelLanes (rect .width) * i) out₀)
 
 abbrev μ-loop : tie.MeasureT-loop
 μ-loop source rect pixels out₀ h i₀ out i = h - i
@@ -38,7 +38,7 @@ add-at : tie.Need-add-at Inv-loop μ-loop
 add-at c = search needs
 
 mul-at : tie.Need-mul-at Inv-loop μ-loop
-mul-at c = let a = c .before .before .before .before .before .before .before .args in let p = c .before .before .before .before .before .before .before .pre in omega (arith, row-fits (a .pixels .now) (a .source .width) (a .source .height) (a .rect .y + c .before .before .before .loop .i) (p .1) (omega arith))
+mul-at c = let a = c .before .before .before .before .before .before .before .args in let p = c .before .before .before .before .before .before .before .pre in omega (arith, row-fits pixelLanes (a .pixels .now) (a .source .width) (a .source .height) (a .rect .y + c .before .before .before .loop .i) (p .1) (omega arith))
 
 cast-to : tie.Need-cast-to Inv-loop μ-loop
 cast-to c = search needs
@@ -50,7 +50,7 @@ mul-to-2 : tie.Need-mul-to-2 Inv-loop μ-loop
 mul-to-2 c = let a = c .before .before .before .before .before .before .before .before .args in let p = c .before .before .before .before .before .before .before .before .pre in let h : c .before .before .before .before .loop .i ≤ a .rect .height = omega arith in omega (arith, mul-le-mul-left (4 * a .rect .width) h)
 
 add-window : tie.Need-add-window Inv-loop μ-loop
-add-window c = let a = c .before .before .before .before .before .before .before .before .before .args in let p = c .before .before .before .before .before .before .before .before .before .pre in omega (arith, row-fits (a .pixels .now) (a .source .width) (a .source .height) (a .rect .y + c .before .before .before .before .before .loop .i) (p .1) (omega arith))
+add-window c = let a = c .before .before .before .before .before .before .before .before .before .args in let p = c .before .before .before .before .before .before .before .before .before .pre in omega (arith, row-fits pixelLanes (a .pixels .now) (a .source .width) (a .source .height) (a .rect .y + c .before .before .before .before .before .loop .i) (p .1) (omega arith))
 
 sub-window : tie.Need-sub-window Inv-loop μ-loop
 sub-window c = search needs
@@ -59,7 +59,7 @@ part-window-start : tie.Need-part-window-start Inv-loop μ-loop
 part-window-start c = search needs
 
 part-window-end : tie.Need-part-window-end Inv-loop μ-loop
-part-window-end c = let a = c .before .before .before .before .before .before .before .before .before .args in let p = c .before .before .before .before .before .before .before .before .before .pre in omega (arith, row-fits (a .pixels .now) (a .source .width) (a .source .height) (a .rect .y + c .before .before .before .before .before .loop .i) (p .1) (omega arith))
+part-window-end c = let a = c .before .before .before .before .before .before .before .before .before .args in let p = c .before .before .before .before .before .before .before .before .before .pre in omega (arith, row-fits pixelLanes (a .pixels .now) (a .source .width) (a .source .height) (a .rect .y + c .before .before .before .before .before .loop .i) (p .1) (omega arith))
 
 window-requires : tie.Need-window-requires Inv-loop μ-loop
 window-requires c κs = search needs
@@ -68,7 +68,7 @@ copy-at-requires : tie.Need-copy-at-requires Inv-loop μ-loop
 copy-at-requires c κs = let a = c .before .before .before .before .before .before .before .before .before .before .before .args in
     let p = c .before .before .before .before .before .before .before .before .before .before .before .pre in
     let i = c .before .before .before .before .before .before .before .loop .i in
-    let s = c .window .ensures ∙ ap (λ r. windowOf r (a .rect .x) (a .rect .width)) (row-part (a .pixels .now) (a .source .width) (a .rect .y + i)) in
+    let s = c .window .ensures ∙ ap (λ r. windowOf pixelLanes r (a .rect .x) (a .rect .width)) (row-part pixelLanes (a .pixels .now) (a .source .width) (a .rect .y + i)) in
     let n = ap length s ∙ stripe-length (a .source) (a .rect) (a .pixels .now) (p .0) (p .1) i (omega arith) in
     let h : i + 1 ≤ a .rect .height = omega arith in
     omega (arith, mul-le-mul-left (4 * a .rect .width) h)
@@ -84,7 +84,7 @@ loop-again c = let a = c .before .before .before .before .before .before .before
     let l = c .before .before .before .before .before .before .before .before .before .before .loop in
     let p = c .before .before .before .before .before .before .before .before .before .before .before .before .before .before .pre in
     let i = l .i in
-    let s : c .before .before .before .window .result .now ≡ windowOf (pictureRow (a .pixels .now) (a .source .width) (a .rect .y + i)) (a .rect .x) (a .rect .width) = c .before .before .before .window .ensures ∙ ap (λ r. windowOf r (a .rect .x) (a .rect .width)) (row-part (a .pixels .now) (a .source .width) (a .rect .y + i)) in
+    let s : c .before .before .before .window .result .now ≡ windowOf pixelLanes (pictureRow pixelLanes (a .pixels .now) (a .source .width) (a .rect .y + i)) (a .rect .x) (a .rect .width) = c .before .before .before .window .ensures ∙ ap (λ r. windowOf pixelLanes r (a .rect .x) (a .rect .width)) (row-part pixelLanes (a .pixels .now) (a .source .width) (a .rect .y + i)) in
     (omega arith, c .before .before .copy-at .kept .0 ∙ l .inv .1, c .before .before .copy-at .ensures ∙ rw s (rows-turn (a .source) (a .rect) (a .pixels .now) (p .0) (p .1) (l .out) (a .out .now) i (omega arith) (l .inv .2)))
 
 same-length : tie.Need-same-length Inv-loop μ-loop

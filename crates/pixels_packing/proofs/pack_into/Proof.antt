@@ -6,7 +6,7 @@ use native.Mathlib.Omega.{arith}
 use mathlib.Core.List.{_++_}
 use mathlib.Core.Path.{_≡_, refl, ap, _∙_}
 use Rattle.pixels.specs.Layout.{packedByte}
-use Rattle.pixels.specs.Sizes.{lanes}
+use Rattle.pixels.specs.Sizes.{pixelLanes}
 use Rattle.arithmetic.specs.Table.{tabulate}
 use lib.ListN.{length, getD, drop}
 use mathlib.Core.List.{_++_}
@@ -17,7 +17,7 @@ use Rattle.pixels_packing.proofs.pack_into.Statement.{statement}
 use Rattle.pixels_packing.proofs.pack_into.Tie as tie
 
 abbrev Inv-loop : tie.InvT-loop
-Inv-loop layout argb out₀ i₀ out i = (i ≤ length argb) × (length out ≡ length out₀) × (out ≡ tabulate (packedByte layout (λ j. getD argb j 0)) (lanes * i) ++ drop (lanes * i) out₀)
+Inv-loop layout argb out₀ i₀ out i = (i ≤ length argb) × (length out ≡ length out₀) × (out ≡ tabulate (packedByte layout (λ j. getD argb j 0)) (pixelLanes * i) ++ drop (pixelLanes * i) out₀)
 
 abbrev μ-loop : tie.MeasureT-loop
 μ-loop layout argb out₀ i₀ out i = length argb - i

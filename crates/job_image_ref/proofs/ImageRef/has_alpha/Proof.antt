@@ -176,4 +176,4 @@ has-alpha-spec 𝓤 H 𝓜 𝓖 𝓡 =
     entered 𝓤 H (tripleOf 𝓤 H (𝓖 .A) ok.signature (ok.spec 𝓤 H (𝓖 .A) (𝓜 .mem) (𝓡 .run)))
     (tables 𝓤 H 𝓜 𝓡 code.env .C) (tables 𝓤 H 𝓜 𝓡 code.env .Λ) #image·has-alpha code.function (code.unfolded 𝓤 H 𝓜 𝓡)
     (has-alpha-meets 𝓤 H (𝓖 .A) (givenOf 𝓤 H 𝓜 𝓖) (𝓜 .mem) (𝓡 .run) (tablesOf 𝓤 H 𝓜 (tables 𝓤 H 𝓜 𝓡 code.env))
-    (cited 𝓤 H (FlagC 𝓤 H (𝓖 .A) (𝓜 .mem) (𝓡 .run)) 𝓜 𝓡 code.env #image·flag-of flag-def.routine code.calls-image·flag-of (flag-thm.met 𝓤 H 𝓜 𝓖 𝓡)))
+    (cited 𝓤 H (FlagC 𝓤 H (𝓖 .A) (𝓜 .mem) (𝓡 .run)) 𝓜 𝓡 code.env #image·flag-of flag-def.routine code.calls-job-image-ref·flag-of (flag-thm.met 𝓤 H 𝓜 𝓖 𝓡)))

@@ -7,7 +7,7 @@ use native.Mathlib.Nat.{mul-le-mul-right, lt-of-mul-lt-mul-right}
 use lib.ListN.{length, set}
 use Rattle.arithmetic.specs.Word.{wrapAdd, wrapMul}
 use Rattle.arithmetic.specs.Table.{tabulate}
-use Rattle.pixels.specs.Sizes.{lanes}
+use Rattle.pixels.specs.Sizes.{pixelLanes}
 use Rattle.pixels.specs.declared.Places.{Places}
 use Rattle.rows.specs.declared.import.Quad.{Quad}
 use Rattle.rows.specs.Column.{value}
@@ -24,7 +24,7 @@ record Inv (s : List ℕ) (n m : ℕ) (p : Places) (half₀ half : List ℕ) (le
   stands : Stands (laneBytes p s) n left right x
   along : acc + j * (n - 1) ≡ suc x * (m - 1) + (n - 1)
   most : acc ≤ (m - 1) + (n - 1)
-  half-is : half ≡ written (lanes * j) (rowValue (laneBytes p s) n m) half₀
+  half-is : half ≡ written (pixelLanes * j) (rowValue pixelLanes (laneBytes p s) n m) half₀
 
 first : {s half₀ : List ℕ} {n m r : ℕ} {p : Places} {left right : Quad} → RowAsks s half₀ n m p → Second n r
     → Four (λ k. at left k ≡ laneBytes p s k 0) → Four (λ k. at right k ≡ laneBytes p s k r)
@@ -58,9 +58,9 @@ module _ {s half₀ half : List ℕ} {n m : ℕ} {p : Places} {left right : Quad
       let below : suc x * (m - 1) < (n - 1) * (m - 1) = omega (arith, i .along) in
       omega (arith, lt-of-mul-lt-mul-right (m - 1) below)
 
-  asks : j < m → AdvanceAsks s (length s / lanes) (m - 1) (n - 1) left right x acc p
+  asks : j < m → AdvanceAsks s (length s / pixelLanes) (m - 1) (n - 1) left right x acc p
   asks t =
-      let e : length s / lanes ≡ n = omega (arith, a .whole) in
+      let e : length s / pixelLanes ≡ n = omega (arith, a .whole) in
       rw e
       (record {
         stands = i .stands;
@@ -75,17 +75,17 @@ module _ {s half₀ half : List ℕ} {n m : ℕ} {p : Places} {left right : Quad
       })
 
   same : length half ≡ length half₀
-  same = ap length (i .half-is) ∙ written-length (lanes * j) (rowValue (laneBytes p s) n m) half₀ (omega (arith, i .so-far, a .room))
+  same = ap length (i .half-is) ∙ written-length (pixelLanes * j) (rowValue pixelLanes (laneBytes p s) n m) half₀ (omega (arith, i .so-far, a .room))
 
-  module _ {left' right' : Quad} {x' acc' : ℕ} (w : Advances s (length s / lanes) (m - 1) (n - 1) p x acc left' right' x' acc') where
+  module _ {left' right' : Quad} {x' acc' : ℕ} (w : Advances s (length s / pixelLanes) (m - 1) (n - 1) p x acc left' right' x' acc') where
     rest : acc' ≤ m - 1
     rest = w .small
 
     turn : (v : Quad) → j < m → Four (λ k. at v k ≡ wrapAdd (wrapMul (at left' k) acc') (wrapMul (at right' k) ((m - 1) - acc')))
-        → (half' : List ℕ) → half' ≡ set (set (set (set half (lanes * j) (v .a)) (lanes * j + 1) (v .b)) (lanes * j + 2) (v .c)) (lanes * j + 3) (v .d)
+        → (half' : List ℕ) → half' ≡ set (set (set (set half (pixelLanes * j) (v .a)) (pixelLanes * j + 1) (v .b)) (pixelLanes * j + 2) (v .c)) (pixelLanes * j + 3) (v .d)
         → Inv s n m p half₀ half' left' right' x' acc' (j + 1)
     turn v t e half' put =
-        let whole : length s / lanes ≡ n = omega (arith, a .whole) in
+        let whole : length s / pixelLanes ≡ n = omega (arith, a .whole) in
         let st : Stands (laneBytes p s) n left' right' x' = rw whole at (w .stands) in
         let q : ℕ → ℕ → ℕ = laneBytes p s in
         let here : acc' + j * (n - 1) ≡ suc x' * (m - 1) = omega (arith, i .along, w .along) in
@@ -104,11 +104,11 @@ module _ {s half₀ half : List ℕ} {n m : ℕ} {p : Places} {left right : Quad
           stands = st;
           along = omega arith;
           most = omega (arith, w .small);
-          half-is = put ∙ put-four (rowValue q n m) j half₀ (omega (arith, a .room)) half v (i .half-is) (row-values q n m j v values);
+          half-is = put ∙ put-four (rowValue pixelLanes q n m) j half₀ (omega (arith, a .room)) half v (i .half-is) (row-values q n m j v values);
         }
 
-  done : m ≤ j → half ≡ written (lanes * m) (rowValue (laneBytes p s) n m) half₀
-  done t = i .half-is ∙ ap (λ (k : ℕ). written (lanes * k) (rowValue (laneBytes p s) n m) half₀) (let e : j ≡ m = omega (arith, i .so-far) in e)
+  done : m ≤ j → half ≡ written (pixelLanes * m) (rowValue pixelLanes (laneBytes p s) n m) half₀
+  done t = i .half-is ∙ ap (λ (k : ℕ). written (pixelLanes * k) (rowValue pixelLanes (laneBytes p s) n m) half₀) (let e : j ≡ m = omega (arith, i .so-far) in e)
 
 abbrev Inv-loop : tie.InvT-loop
 Inv-loop row n m p half₀ span step beside s₀ j₀ half s j = Inv row n m p half₀ half (s .left) (s .right) (s .x) (s .acc) j

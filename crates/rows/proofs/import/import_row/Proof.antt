@@ -9,7 +9,7 @@ use lib.ListN.{length}
 use Rattle.pixels.specs.declared.PixelLayout.{PixelLayout}
 use Rattle.pixels.specs.declared.Places.{Places}
 use Rattle.pixels.specs.declared.Refusal.the-variants.{InvalidDimensions, PixelBufferMismatch, WorkLength}
-use Rattle.pixels.specs.Sizes.{rowBytes, halfValues, badSide}
+use Rattle.pixels.specs.Sizes.{pixelLanes, rowBytes, halfValues, badSide}
 use Rattle.pixels.specs.Layout.{placesOf}
 use Rattle.pixels.specs.Lanes.{matted}
 use Rattle.pixels.proofs.Fitting.{side-of}
@@ -22,7 +22,7 @@ use Rattle.rows.proofs.import.import_row.Statement.{statement}
 use Rattle.rows.proofs.import.import_row.Tie as tie
 
 asks : (layout : PixelLayout) (s half : List ℕ) (n m : ℕ) (p : Places) → p ≡ placesOf layout → Bytes s → badSide n ≡ false → badSide m ≡ false
-    → length s ≡ rowBytes n → halfValues m ≤ length half → RowAsks s half n m p
+    → length s ≡ rowBytes pixelLanes n → halfValues pixelLanes m ≤ length half → RowAsks s half n m p
 asks layout s half n m p e bytes good-n good-m whole room =
     record {
       n-pos = side-of n good-n .some;
@@ -37,11 +37,11 @@ asks layout s half n m p e bytes good-n good-m whole room =
 
 -- what was written by places is the row of the matted lanes
 by-layout : (layout : PixelLayout) (s half half' : List ℕ) (n m : ℕ) (p : Places) → p ≡ placesOf layout → Bytes s
-    → half' ≡ written (halfValues m) (rowValue (laneBytes p s) n m) half → half' ≡ written (halfValues m) (rowValue (matted layout s) n m) half
+    → half' ≡ written (halfValues pixelLanes m) (rowValue pixelLanes (laneBytes p s) n m) half → half' ≡ written (halfValues pixelLanes m) (rowValue pixelLanes (matted layout s) n m) half
 by-layout layout s half half' n m p e bytes w =
     w
-    ∙ ap (λ (q : Places). written (halfValues m) (rowValue (laneBytes q s) n m) half) e
-    ∙ ap (λ (f : ℕ → ℕ). written (halfValues m) f half) (matted-row layout s bytes n m)
+    ∙ ap (λ (q : Places). written (halfValues pixelLanes m) (rowValue pixelLanes (laneBytes q s) n m) half) e
+    ∙ ap (λ (f : ℕ → ℕ). written (halfValues pixelLanes m) f half) (matted-row layout s bytes n m)
 
 bad-width-requires : tie.Need-bad-width-requires
 bad-width-requires c κs = search needs
