@@ -2,7 +2,7 @@
 -- of the work values. Assumes nothing.
 use Prim.Native.Nat.{ℕ, zero, suc, _+_, _-_, _*_, _/_, _%_, min}
 use mathlib.Core.Bool.{Bool, cond, not, _||_, _&&_}
-use mathlib.Core.List.{List, _++_}
+use mathlib.Core.List.{List, [], _∷_, _++_}
 use lib.Dec.{eqb, leb, ltb}
 use lib.ListN.{length, drop, replicate}
 use Rattle.arithmetic.specs.Table.{tabulate}
@@ -10,8 +10,8 @@ use Rattle.arithmetic.specs.Weight.{span}
 use Rattle.pixels.specs.declared.Dimensions.{Dimensions}
 use Rattle.pixels.specs.declared.Rect.{Rect}
 use Rattle.pixels.specs.declared.Refusal.the-variants.{PixelBufferMismatch, OutputLength, WorkLength, InvalidRecord, RowReady, AllAccepted, NoneReady}
-use Rattle.pixels.specs.Refusals.{refusedIf, firstOf}
-use Rattle.pixels.specs.Sizes.{rowBytes, halfValues, workValues, sizesNumber}
+use Rattle.pixels.specs.Refusals.{Cause, cause, first, otherLength, fewWork}
+use Rattle.pixels.specs.Sizes.{rowBytes, halfValues, workValues, sizesCauses}
 use Rattle.pixels.specs.Lanes.{matted, restoredPlace}
 use Rattle.pixels_alpha.specs.Alpha.{hasAlpha}
 use Rattle.pixels_crop.specs.Crop.{windowOf, pictureRow}
@@ -23,13 +23,17 @@ use Rattle.job.specs.declared.Job.{Job}
 use Rattle.job.specs.Record.{lanesOf, R, fresh, lawful}
 
 -- "fewer than 8 × target width work values", w being lent
-abbrev pub shortWork : Plan → ℕ → ℕ
-shortWork p w = refusedIf (ltb w (workValues (lanesOf p) (p .target .width))) WorkLength
+abbrev pub shortWork : Plan → ℕ → Cause
+shortWork p w = fewWork w (workValues (lanesOf p) (p .target .width))
+
+-- "record breaks the rules"
+abbrev pub badRecord : Job → Cause
+badRecord j = cause (not (lawful j)) InvalidRecord
 
 -- ---- start: 1, 2, 5
 
 unfoldable pub startNumber : Plan → ℕ → ℕ
-startNumber p w = firstOf (sizesNumber (p .source) (p .crop) (p .target)) (shortWork p w)
+startNumber p w = first (sizesCauses (p .source) (p .crop) (p .target) ++ (shortWork p w ∷ []))
 
 -- "start clears both, and the rest is untouched"
 abbrev pub cleared : Plan → List ℕ → List ℕ
@@ -70,11 +74,13 @@ badRows p n = eqb n 0 || not (eqb (n % rowBytes (lanesOf p) (p .source .width)) 
 -- of n bytes lent and w work values
 unfoldable pub offerNumber : Job → ℕ → ℕ → ℕ
 offerNumber j n w =
-    firstOf (refusedIf (not (lawful j)) InvalidRecord)
-    (firstOf (refusedIf (badRows (j .plan) n) PixelBufferMismatch)
-    (firstOf (shortWork (j .plan) w)
-    (firstOf (refusedIf (ltb (j .taken) (R (j .plan) (j .accepted))) RowReady)
-    (refusedIf (leb (j .plan .source .height) (j .accepted)) AllAccepted))))
+    first
+    (badRecord j
+    ∷ cause (badRows (j .plan) n) PixelBufferMismatch
+    ∷ shortWork (j .plan) w
+    ∷ cause (ltb (j .taken) (R (j .plan) (j .accepted))) RowReady
+    ∷ cause (leb (j .plan .source .height) (j .accepted)) AllAccepted
+    ∷ [])
 
 -- "It stops at the first row that makes an output row ready, at the last offered or at the source's last": one row more, as long as none is ready.
 -- Of the rows' function R, the rows accepted k, the rows taken t and the most there may be.
@@ -109,10 +115,12 @@ offerWork j rows work =
 -- of n bytes of output and w work values
 unfoldable pub takeNumber : Job → ℕ → ℕ → ℕ
 takeNumber j n w =
-    firstOf (refusedIf (not (lawful j)) InvalidRecord)
-    (firstOf (refusedIf (not (eqb n (rowBytes (lanesOf (j .plan)) (j .plan .target .width)))) OutputLength)
-    (firstOf (shortWork (j .plan) w)
-    (refusedIf (leb (R (j .plan) (j .accepted)) (j .taken)) NoneReady)))
+    first
+    (badRecord j
+    ∷ otherLength n (rowBytes (lanesOf (j .plan)) (j .plan .target .width)) OutputLength
+    ∷ shortWork (j .plan) w
+    ∷ cause (leb (R (j .plan) (j .accepted)) (j .taken)) NoneReady
+    ∷ [])
 
 -- u, the crop rows used
 abbrev pub usedBy : Job → ℕ

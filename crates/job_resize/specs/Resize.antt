@@ -2,15 +2,15 @@
 -- claim's `resized` and `resizedFlag`; here are its numbers and its work values. Assumes nothing.
 use Prim.Native.Nat.{ℕ, zero, suc, _+_, _-_, _*_, _/_, _%_, _^_}
 use mathlib.Core.Bool.{Bool, cond, not}
-use mathlib.Core.List.{List, _++_}
+use mathlib.Core.List.{List, [], _∷_, _++_}
 use lib.Dec.{eqb, ltb, leb}
 use lib.ListN.{length, getD, drop}
 use Rattle.arithmetic.specs.Table.{tabulate}
 use Rattle.pixels.specs.declared.Dimensions.{Dimensions}
 use Rattle.pixels.specs.declared.PixelLayout.{PixelLayout}
 use Rattle.pixels.specs.declared.Refusal.the-variants.{PixelBufferMismatch, OutputLength, WorkLength}
-use Rattle.pixels.specs.Refusals.{refusedIf, firstOf}
-use Rattle.pixels.specs.Sizes.{pixelLanes, halfValues, workValues, pictureBytes, sizesNumber}
+use Rattle.pixels.specs.Refusals.{first, otherLength, fewWork, flagIf, bufferIf}
+use Rattle.pixels.specs.Sizes.{pixelLanes, halfValues, workValues, pictureBytes, sizesCauses}
 use Rattle.rows.specs.Column.{value}
 use Rattle.rows.specs.WorkRows.{halfOf}
 use Rattle.rows.specs.Closed.{newest}
@@ -20,10 +20,12 @@ use Rattle.job_claim.specs.Rows.{fullCrop, mattedByte, resizePlan, resized, res
 -- 1, 3, 4, 5 ascending, of n bytes of pixels, m of output and w work values
 unfoldable pub resizeNumber : Dimensions → Dimensions → ℕ → ℕ → ℕ → ℕ
 resizeNumber source target n m w =
-    firstOf (sizesNumber source (fullCrop source) target)
-    (firstOf (refusedIf (not (eqb n (pictureBytes pixelLanes (source .width) (source .height)))) PixelBufferMismatch)
-    (firstOf (refusedIf (not (eqb m (pictureBytes pixelLanes (target .width) (target .height)))) OutputLength)
-    (refusedIf (ltb w (workValues pixelLanes (target .width))) WorkLength)))
+    first
+    (sizesCauses source (fullCrop source) target
+    ++ (otherLength n (pictureBytes pixelLanes (source .width) (source .height)) PixelBufferMismatch
+    ∷ otherLength m (pictureBytes pixelLanes (target .width) (target .height)) OutputLength
+    ∷ fewWork w (workValues pixelLanes (target .width))
+    ∷ []))
 
 -- the value of crop row c at place x of a half, b i being the source's byte i
 unfoldable pub rowValueAt : Plan → (ℕ → ℕ) → ℕ → ℕ → ℕ

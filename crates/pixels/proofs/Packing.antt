@@ -13,10 +13,11 @@ use Rattle.arithmetic.proofs.Tables.{length-tabulate, getD-tabulate, tabulate-c
 use Rattle.pixels.specs.declared.PixelLayout.{PixelLayout}
 use Rattle.pixels.specs.declared.PixelLayout.the-variants.{Rgba8, Argb8, Bgra8}
 use Rattle.pixels.specs.declared.Refusal.the-variants.{OutputLength}
-use Rattle.pixels.specs.Refusals.{number}
+use Rattle.pixels.specs.Refusals.{number, otherLength}
 use Rattle.pixels.specs.Sizes.{pixelLanes}
 use Rattle.pixels.specs.Layout.{placeOf, laneAt, pixelAt, unpacked, packed, unpackedPixels, packedByte, packedPixels, packNumber, unpackNumber}
-use Rattle.pixels.proofs.Numbers.{length-refused, length-passes}
+use Rattle.pixels.proofs.Truths.{differ, same}
+use Rattle.pixels.proofs.Causes.{first-at, first-none}
 use Rattle.arithmetic.proofs.Stretches.{stretch, tabulate-add}
 use Rattle.pixels.proofs.Tabled.{place-lt, place-twice}
 
@@ -69,19 +70,19 @@ packed-length l n = length-tabulate _ pixelLanes
 -- ---- the output's length
 pub pack-refused : (n m : ℕ) → (m ≡ pixelLanes * n → ⊥) → packNumber n m ≡ number OutputLength
 unfolding packNumber
-pack-refused n m h = length-refused OutputLength m (pixelLanes * n) h
+pack-refused n m h = first-at (otherLength m (pixelLanes * n) OutputLength ∷ []) 0 tt (differ m (pixelLanes * n) h)
 
 pub pack-passes : (n m : ℕ) → m ≡ pixelLanes * n → packNumber n m ≡ 0
 unfolding packNumber
-pack-passes n m h = length-passes OutputLength m (pixelLanes * n) h
+pack-passes n m h = first-none (otherLength m (pixelLanes * n) OutputLength ∷ []) (same m (pixelLanes * n) h, tt)
 
 pub unpack-refused : (n m : ℕ) → (m ≡ n / pixelLanes → ⊥) → unpackNumber n m ≡ number OutputLength
 unfolding unpackNumber
-unpack-refused n m h = length-refused OutputLength m (n / pixelLanes) h
+unpack-refused n m h = first-at (otherLength m (n / pixelLanes) OutputLength ∷ []) 0 tt (differ m (n / pixelLanes) h)
 
 pub unpack-passes : (n m : ℕ) → m ≡ n / pixelLanes → unpackNumber n m ≡ 0
 unfolding unpackNumber
-unpack-passes n m h = length-passes OutputLength m (n / pixelLanes) h
+unpack-passes n m h = first-none (otherLength m (n / pixelLanes) OutputLength ∷ []) (same m (n / pixelLanes) h, tt)
 
 -- ---- round trips. A lane of packed pixels is the pixel's lane.
 pub packed-lane : (l : PixelLayout) (argb : List ℕ) (i k : ℕ) → i < length argb → k < pixelLanes → laneAt l (packedPixels l argb) i k ≡ laneOf (getD argb i 0) k

@@ -1,9 +1,7 @@
 -- The layouts (document 01, "Lanes"): where each lane of a pixel AARRGGBB stands among its bytes. Lanes count from the lowest byte of the number:
 -- 0 is blue, 1 green, 2 red, 3 alpha. Assumes nothing.
 use Prim.Native.Nat.{ℕ, _+_, _*_, _/_, _%_}
-use mathlib.Core.Bool.{not}
 use mathlib.Core.List.{List, [], _∷_}
-use lib.Dec.{eqb}
 use lib.ListN.{length, getD}
 use Rattle.arithmetic.specs.Matte.{laneOf, pixelOf}
 use Rattle.arithmetic.specs.Table.{tabulate}
@@ -11,7 +9,7 @@ use Rattle.pixels.specs.declared.PixelLayout.{PixelLayout}
 use Rattle.pixels.specs.declared.PixelLayout.the-variants.{Rgba8, Argb8, Bgra8}
 use Rattle.pixels.specs.declared.Places.{Places}
 use Rattle.pixels.specs.declared.Refusal.the-variants.{OutputLength}
-use Rattle.pixels.specs.Refusals.{refusedIf}
+use Rattle.pixels.specs.Refusals.{first, otherLength, bufferIf}
 use Rattle.pixels.specs.Sizes.{pixelLanes}
 
 -- the table's rows: Rgba8, Argb8, Bgra8
@@ -66,8 +64,15 @@ packedPixels layout argb = tabulate (packedByte layout (λ i. getD argb i 0)) (p
 
 -- "its output holds exactly length / 4 values, else 4", of n bytes and m values of output
 unfoldable pub unpackNumber : ℕ → ℕ → ℕ
-unpackNumber n m = refusedIf (not (eqb m (n / pixelLanes))) OutputLength
+unpackNumber n m = first (otherLength m (n / pixelLanes) OutputLength ∷ [])
 
 -- "4 × pixels for packing", of n pixels and m bytes of output
 unfoldable pub packNumber : ℕ → ℕ → ℕ
-packNumber n m = refusedIf (not (eqb m (pixelLanes * n))) OutputLength
+packNumber n m = first (otherLength m (pixelLanes * n) OutputLength ∷ [])
+
+-- the outputs afterwards
+unfoldable pub unpackOut : PixelLayout → List ℕ → List ℕ → List ℕ
+unpackOut layout s out = bufferIf (unpackNumber (length s) (length out)) (unpackedPixels layout s) out
+
+unfoldable pub packOut : PixelLayout → List ℕ → List ℕ → List ℕ
+packOut layout argb out = bufferIf (packNumber (length argb) (length out)) (packedPixels layout argb) out

@@ -1,12 +1,13 @@
 -- Sizes and lengths, and the numbers 1 and 2 of document 01's table ("Why a call is turned away"). Assumes nothing.
 use Prim.Native.Nat.{ℕ, _+_, _*_, _≤_}
 use mathlib.Core.Bool.{Bool, cond, _||_}
+use mathlib.Core.List.{List, [], _∷_}
 use lib.Dec.{eqb, ltb}
 use Rattle.arithmetic.specs.Quotient.{ceil}
 use Rattle.pixels.specs.declared.Dimensions.{Dimensions}
 use Rattle.pixels.specs.declared.Rect.{Rect}
 use Rattle.pixels.specs.declared.Refusal.the-variants.{InvalidDimensions, CropOutOfBounds}
-use Rattle.pixels.specs.Refusals.{refusedIf, firstOf}
+use Rattle.pixels.specs.Refusals.{Cause, cause, first}
 
 -- the largest side
 abbrev pub maxSide : ℕ
@@ -48,15 +49,29 @@ emptyCrop crop = eqb (crop .width) 0 || eqb (crop .height) 0
 unfoldable pub cropBeyond : Rect → Dimensions → Bool
 cropBeyond crop size = ltb (size .width) (crop .x + crop .width) || ltb (size .height) (crop .y + crop .height)
 
--- number 1 of one size, 0 where it passes
-unfoldable pub sizeNumber : Dimensions → ℕ
-sizeNumber size = refusedIf (badSize size) InvalidDimensions
+-- ---- numbers 1 and 2
 
--- numbers 1 and 2 of a source, its crop and a target, 0 where they pass. A crop side above 16,384 is 2, since no source side is.
+-- 1 of one size
+abbrev pub wrongSize : Dimensions → Cause
+wrongSize size = cause (badSize size) InvalidDimensions
+
+unfoldable pub sizeNumber : Dimensions → ℕ
+sizeNumber size = first (wrongSize size ∷ [])
+
+-- 1 of a source, its crop and a target
+abbrev pub wrongSizes : Dimensions → Rect → Dimensions → Cause
+wrongSizes source crop target = cause (badSize source || badSize target || emptyCrop crop) InvalidDimensions
+
+-- 2. A crop side above 16,384 is 2, since no source side is.
+abbrev pub cropOutside : Rect → Dimensions → Cause
+cropOutside crop source = cause (cropBeyond crop source) CropOutOfBounds
+
+-- what every call that is lent a source, its crop and a target tests first
+abbrev pub sizesCauses : Dimensions → Rect → Dimensions → List Cause
+sizesCauses source crop target = wrongSizes source crop target ∷ cropOutside crop source ∷ []
+
 unfoldable pub sizesNumber : Dimensions → Rect → Dimensions → ℕ
-sizesNumber source crop target =
-    firstOf (refusedIf (badSize source || badSize target || emptyCrop crop) InvalidDimensions)
-    (refusedIf (cropBeyond crop source) CropOutOfBounds)
+sizesNumber source crop target = first (sizesCauses source crop target)
 
 -- what passing means: a side from 1 to 16,384; sizes of such sides, a crop that is not empty, its edges within the source
 pub record Side (side : ℕ) : Type 0 where
@@ -96,4 +111,4 @@ scaledSize source width height = sizeOf (scaledWidth source width height) (scale
 
 -- "both 0, or a side above 16,384, gives 1", of the source too; both 0 gives sides of 0
 unfoldable pub scaledNumber : Dimensions → ℕ → ℕ → ℕ
-scaledNumber source width height = firstOf (sizeNumber source) (sizeNumber (scaledSize source width height))
+scaledNumber source width height = first (wrongSize source ∷ wrongSize (scaledSize source width height) ∷ [])

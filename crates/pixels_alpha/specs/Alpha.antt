@@ -1,7 +1,7 @@
 -- The alpha of a whole picture (document 01, "Lanes" and "Beside the job"): its flag, its length, and apply_alpha_plane. Assumes nothing.
 use Prim.Native.Nat.{ℕ, zero, suc, _*_, _/_, _%_}
 use mathlib.Core.Bool.{Bool, false, cond, not, _||_}
-use mathlib.Core.List.{List}
+use mathlib.Core.List.{List, [], _∷_}
 use lib.Dec.{eqb}
 use lib.ListN.{length, getD}
 use Rattle.arithmetic.specs.Matte.{laneOf}
@@ -9,8 +9,8 @@ use Rattle.arithmetic.specs.Table.{tabulate}
 use Rattle.pixels.specs.declared.Dimensions.{Dimensions}
 use Rattle.pixels.specs.declared.PixelLayout.{PixelLayout}
 use Rattle.pixels.specs.declared.Refusal.the-variants.{PixelBufferMismatch}
-use Rattle.pixels.specs.Refusals.{refusedIf, firstOf}
-use Rattle.pixels.specs.Sizes.{pixelLanes, pictureBytes, sizeNumber}
+use Rattle.pixels.specs.Refusals.{first, otherLength, flagIf, bufferIf}
+use Rattle.pixels.specs.Sizes.{pixelLanes, pictureBytes, wrongSize}
 use Rattle.pixels.specs.Layout.{alphaLane, placeOf, alphaAt}
 
 -- whether some of the alphas a 0, a 1, .. of n pixels isn't 255
@@ -29,7 +29,14 @@ argbHasAlpha argb = someClear (λ i. laneOf (getD argb i 0) alphaLane) (length a
 -- ---- a picture of its size in n bytes: 1, then 3
 unfoldable pub pictureNumber : Dimensions → ℕ → ℕ
 pictureNumber size n =
-    firstOf (sizeNumber size) (refusedIf (not (eqb n (pictureBytes pixelLanes (size .width) (size .height)))) PixelBufferMismatch)
+    first
+    (wrongSize size
+    ∷ otherLength n (pictureBytes pixelLanes (size .width) (size .height)) PixelBufferMismatch
+    ∷ [])
+
+-- its flag
+unfoldable pub pictureFlag : Dimensions → PixelLayout → List ℕ → Bool
+pictureFlag size layout pixels = flagIf (pictureNumber size (length pixels)) (hasAlpha layout pixels (size .width * size .height))
 
 -- ---- "`apply_alpha_plane` writes only alpha bytes": byte x is the plane's byte of its pixel at the alpha place a, and itself elsewhere
 unfoldable pub alphaByte : ℕ → List ℕ → List ℕ → ℕ → ℕ
@@ -41,4 +48,16 @@ withAlpha layout pixels plane = tabulate (alphaByte (placeOf layout alphaLane) p
 -- 1, then 3 for pixels or plane of another length
 unfoldable pub alphaNumber : Dimensions → ℕ → ℕ → ℕ
 alphaNumber size n m =
-    firstOf (pictureNumber size n) (refusedIf (not (eqb m (size .width * size .height))) PixelBufferMismatch)
+    first
+    (wrongSize size
+    ∷ otherLength n (pictureBytes pixelLanes (size .width) (size .height)) PixelBufferMismatch
+    ∷ otherLength m (size .width * size .height) PixelBufferMismatch
+    ∷ [])
+
+-- the picture afterwards, and its flag
+unfoldable pub alphaPixels : Dimensions → PixelLayout → List ℕ → List ℕ → List ℕ
+alphaPixels size layout pixels plane = bufferIf (alphaNumber size (length pixels) (length plane)) (withAlpha layout pixels plane) pixels
+
+unfoldable pub alphaFlag : Dimensions → PixelLayout → List ℕ → List ℕ → Bool
+alphaFlag size layout pixels plane =
+    flagIf (alphaNumber size (length pixels) (length plane)) (hasAlpha layout (withAlpha layout pixels plane) (size .width * size .height))

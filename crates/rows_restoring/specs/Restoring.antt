@@ -2,13 +2,13 @@
 -- target's width; the buffer holds the lanes B, G, R, A, pixel after pixel. Assumes nothing.
 use Prim.Native.Nat.{ℕ}
 use mathlib.Core.Bool.{Bool, false, not}
-use mathlib.Core.List.{List}
+use mathlib.Core.List.{List, [], _∷_}
 use lib.Dec.{eqb}
 use lib.ListN.{length, getD}
 use Rattle.arithmetic.specs.Table.{tabulate}
 use Rattle.pixels.specs.declared.PixelLayout.{PixelLayout}
 use Rattle.pixels.specs.declared.Refusal.the-variants.{InvalidDimensions, OutputLength}
-use Rattle.pixels.specs.Refusals.{number, refusedIf, firstOf, flagIf, bufferIf}
+use Rattle.pixels.specs.Refusals.{number, cause, first, otherLength, flagIf, bufferIf}
 use Rattle.pixels.specs.Sizes.{pixelLanes, rowBytes, badSide}
 use Rattle.pixels.specs.Lanes.{restoredPlace}
 use Rattle.pixels_alpha.specs.Alpha.{hasAlpha}
@@ -27,7 +27,7 @@ restoredFlag (restored.Refused why) = false
 -- 1, then 4; 0 where the row is restored
 unfoldable pub restoreNumber : ℕ → ℕ → ℕ
 restoreNumber m outBytes =
-    firstOf (refusedIf (badSide m) InvalidDimensions) (refusedIf (not (eqb outBytes (rowBytes pixelLanes m))) OutputLength)
+    first (cause (badSide m) InvalidDimensions ∷ otherLength outBytes (rowBytes pixelLanes m) OutputLength ∷ [])
 
 -- the row restored and packed
 unfoldable pub restoredRow : PixelLayout → ℕ → List ℕ → List ℕ

@@ -2,15 +2,15 @@
 -- are used, y is document 01's Y. Assumes nothing.
 use Prim.Native.Nat.{ℕ, suc, _+_, _-_, _*_}
 use mathlib.Core.Bool.{Bool, cond, not, _&&_}
-use mathlib.Core.List.{List}
+use mathlib.Core.List.{List, [], _∷_}
 use lib.Dec.{eqb, ltb, leb}
 use lib.ListN.{length}
 use Rattle.arithmetic.specs.Table.{tabulate}
 use Rattle.arithmetic.specs.Weight.{span}
 use Rattle.pixels.specs.declared.Dimensions.{Dimensions}
 use Rattle.pixels.specs.declared.Refusal.the-variants.{OutputLength, WorkLength, NoneReady}
-use Rattle.pixels.specs.Refusals.{refusedIf, firstOf, bufferIf}
-use Rattle.pixels.specs.Sizes.{pixelLanes, rowBytes, halfValues, workValues, sizeNumber}
+use Rattle.pixels.specs.Refusals.{cause, first, otherLength, fewWork, bufferIf}
+use Rattle.pixels.specs.Sizes.{pixelLanes, rowBytes, halfValues, workValues, wrongSize}
 use Rattle.rows.specs.WorkRows.{byteOut, rowLeft}
 
 -- from 0 up to below room, x - from
@@ -27,11 +27,13 @@ due h g u y =
 -- 1, 4, 5 and 9, ascending; 0 where the row is made
 unfoldable pub scaleNumber : Dimensions → Dimensions → ℕ → ℕ → ℕ → ℕ → ℕ
 scaleNumber crop target u y outBytes workCount =
-    firstOf (sizeNumber crop)
-    (firstOf (sizeNumber target)
-    (firstOf (refusedIf (not (eqb outBytes (rowBytes pixelLanes (target .width)))) OutputLength)
-    (firstOf (refusedIf (ltb workCount (workValues pixelLanes (target .width))) WorkLength)
-    (refusedIf (not (due (crop .height) (target .height) u y)) NoneReady))))
+    first
+    (wrongSize crop
+    ∷ wrongSize target
+    ∷ otherLength outBytes (rowBytes pixelLanes (target .width)) OutputLength
+    ∷ fewWork workCount (workValues pixelLanes (target .width))
+    ∷ cause (not (due (crop .height) (target .height) u y)) NoneReady
+    ∷ [])
 
 -- the output: the row's lanes B, G, R, A, pixel after pixel, not yet restored
 unfoldable pub scaledOut : Dimensions → Dimensions → ℕ → ℕ → List ℕ → List ℕ → List ℕ
