@@ -27,7 +27,7 @@ use Rattle.rows_schedule.proofs.Crop.{rows-most}
 use Rattle.rows_schedule.proofs.Needed.{needed-le-made, needed-le, down-low, needed-grow}
 use Rattle.rows.specs.Output.{share, restDown}
 use Rattle.rows.specs.WorkRows.{halfOf}
-use Rattle.rows.specs.Closed.{newest, shareBefore, heap}
+use Rattle.rows.specs.Closed.{newest, shareBefore, firstHalf}
 use Rattle.rows_laws.proofs.Held.{Held, share-none}
 use Rattle.rows_laws.proofs.WorkRows.{parity, half-even, half-odd}
 use Rattle.job.specs.declared.Plan.{Plan}
@@ -56,16 +56,16 @@ last-needs h g ph pg = by (le-or-lt g h)
         needed-grow h g (g - 1) ph m ∙ rw c (omega arith)
 
 -- ---- the first half at the end: nothing is left over
-heap-end : (h g y : ℕ) (v : ℕ → ℕ) → g ≡ suc y → needed h g y ≡ h → heap h g v (suc y) h ≡ 0
-unfolding heap shareBefore since
-heap-end h g y v e n =
+firstHalf-end : (h g y : ℕ) (v : ℕ → ℕ) → g ≡ suc y → needed h g y ≡ h → firstHalf h g v (suc y) h ≡ 0
+unfolding firstHalf shareBefore since
+firstHalf-end h g y v e n =
     let d : restDown h g h y ≡ 0 = omega (arith, ap (λ (t : ℕ). h * t) e) in
     rw n (rw (share-none g (restDown h g h y) (newest v h) d, sum-none-yet v h) refl)
 
-heap-last : (h g : ℕ) (v : ℕ → ℕ) → 0 < h → 0 < g → heap h g v g h ≡ 0
-heap-last h g v ph pg =
+firstHalf-last : (h g : ℕ) (v : ℕ → ℕ) → 0 < h → 0 < g → firstHalf h g v g h ≡ 0
+firstHalf-last h g v ph pg =
     let e : g ≡ suc (g - 1) = omega arith in
-    ap (λ (y : ℕ). heap h g v y h) e ∙ heap-end h g (g - 1) v e (last-needs h g ph pg)
+    ap (λ (y : ℕ). firstHalf h g v y h) e ∙ firstHalf-end h g (g - 1) v e (last-needs h g ph pg)
 
 -- ---- a list of work values by its two halves
 halves : (w : ℕ) (work : List ℕ) → w + w ≤ length work → work ≡ tabulate (λ x. getD work x 0) w ++ (tabulate (λ x. getD work (w + x) 0) w ++ drop (w + w) work)
@@ -92,7 +92,7 @@ module _ (p : Plan) (b : ℕ → ℕ) (work : List ℕ) (ph : 0 < p .crop .heigh
       h = p .crop .height
 
       by : (p .target .height ≤ p .crop .height) ⊎ (p .crop .height < p .target .height) → getD work x 0 ≡ cond (leb (p .target .height) (p .crop .height)) 0 (newest (rowValueAt p b x) (cond (eqb (p .crop .height % 2) 0) (p .crop .height) (p .crop .height - 1)))
-      by (inl m) = simp (le-leb (p .target .height) (p .crop .height) m) (held .first m x l ∙ heap-last (p .crop .height) (p .target .height) (λ c. cropValue p b c x) ph pg)
+      by (inl m) = simp (le-leb (p .target .height) (p .crop .height) m) (held .first m x l ∙ firstHalf-last (p .crop .height) (p .target .height) (λ c. cropValue p b c x) ph pg)
       by (inr m) = simp (lt-leb (p .target .height) (p .crop .height) m) (or (parity (p .crop .height)))
         where
           or : (p .crop .height % 2 ≡ 0) ⊎ (p .crop .height % 2 ≡ 1) → getD work x 0 ≡ newest (rowValueAt p b x) (cond (eqb (p .crop .height % 2) 0) (p .crop .height) (p .crop .height - 1))

@@ -21,7 +21,7 @@ use Rattle.arithmetic.proofs.Weights.{weight-shrink, shrink-sum, shrink-total}
 use Rattle.rows_schedule.specs.Schedule.{needed, since}
 use Rattle.rows_schedule.proofs.Needed.{down-low, down-high, since-rise, needed-le}
 use Rattle.rows.specs.Output.{restDown, share, ratio, byteDown, clamp}
-use Rattle.rows.specs.Closed.{newest, shareBefore, heap, scaledByte}
+use Rattle.rows.specs.Closed.{newest, shareBefore, firstHalf, scaledByte}
 use Rattle.rows.specs.Mean.{Near}
 use Rattle.rows_laws.proofs.Close.{Close, close-weighted, near-clamp}
 use Rattle.rows_laws.proofs.Newest.{newest-at, newest-most}
@@ -150,13 +150,13 @@ module _ (h g y : ℕ) (v : ℕ → ℕ) (W : ℕ) (pos : 0 < g) (low : g ≤ h)
       go w x b f f' s p q k l = omega (arith, times g q)
 
 -- ---- the byte
-pub scaled-down : (W h g : ℕ) (v : ℕ → ℕ) (y : ℕ) → g ≤ h → scaledByte W h g v y ≡ byteDown (ratio W h g) (heap h g v y (needed h g y)) (shareBefore h g v (suc y))
+pub scaled-down : (W h g : ℕ) (v : ℕ → ℕ) (y : ℕ) → g ≤ h → scaledByte W h g v y ≡ byteDown (ratio W h g) (firstHalf h g v y (needed h g y)) (shareBefore h g v (suc y))
 unfolding scaledByte
 scaled-down W h g v y low = simp (le-leb g h low)
 
-pub heap-exact : (h g y : ℕ) (v : ℕ → ℕ) → whole h g v y < 2 ^ 32 → heap h g v y (needed h g y) ≡ whole h g v y
-unfolding heap
-heap-exact h g y v fits = omega arith
+pub first-exact : (h g y : ℕ) (v : ℕ → ℕ) → whole h g v y < 2 ^ 32 → firstHalf h g v y (needed h g y) ≡ whole h g v y
+unfolding firstHalf
+first-exact h g y v fits = omega arith
 
 pub byte-whole : (q a f : ℕ) → q ≡ 2 ^ 32 → byteDown q a f ≡ a % 256
 unfolding byteDown
@@ -249,7 +249,7 @@ module _ (h g y : ℕ) (v e : ℕ → ℕ) (W s : ℕ) (pos : 0 < g) (low : g �
 
   pub distance-down : Near (scaledByte W h g v y) (sum (λ c. weight h g y c * e c) 0 h) (W * h)
   distance-down =
-      rw (scaled-down W h g v y low, heap-exact h g y v (omega (arith, fits))) (by (le-or-lt (ratio W h g) (2 ^ 32)))
+      rw (scaled-down W h g v y low, first-exact h g y v (omega (arith, fits))) (by (le-or-lt (ratio W h g) (2 ^ 32)))
     where
       part : ratio W h g ≢ 2 ^ 32 → Near (byteDown (ratio W h g) w f) T (W * h)
       part ne = rw (byte-part (ratio W h g) w f ne, wrapSub-exact w f f-in (omega (arith, fits))) (near-clamp (MULT (w - f) (ratio W h g)) T (W * h) most-T byte)

@@ -19,7 +19,7 @@ use Rattle.rows_schedule.specs.Schedule.{needed, since}
 use Rattle.rows_schedule.proofs.Needed.{needed-some, needed-equal}
 use Rattle.rows.specs.Output.{restDown, share, ratio, leftDown}
 use Rattle.rows.specs.WorkRows.{rowIn, halfOf, byteOut, rowLeft}
-use Rattle.rows.specs.Closed.{newest, shareBefore, heap, scaledByte}
+use Rattle.rows.specs.Closed.{newest, shareBefore, firstHalf, scaledByte}
 use Rattle.rows_laws.proofs.HeightShrinks.{share-le}
 use Rattle.rows_laws.proofs.WorkRows.{half-two, half-room, in-first, in-second, in-own, in-other, rowIn-length, out-up, out-first, out-second, rowLeft-length}
 
@@ -27,7 +27,7 @@ use Rattle.rows_laws.proofs.WorkRows.{half-two, half-room, in-first, in
 pub record Held (h g w : ℕ) (v : ℕ → ℕ → ℕ) (u y : ℕ) (work : List ℕ) : Type 0 where
   pub long : w + w ≤ length work
   -- g ≤ h
-  pub first : g ≤ h → (x : ℕ) → x < w → getD work x 0 ≡ heap h g (λ c. v c x) y u
+  pub first : g ≤ h → (x : ℕ) → x < w → getD work x 0 ≡ firstHalf h g (λ c. v c x) y u
   pub second : g ≤ h → (x : ℕ) → x < w → getD work (w + x) 0 ≡ newest (λ c. v c x) u
   -- g > h: crop row u - 1 is in the half that row u + 1 will go to
   pub newer : h < g → (x : ℕ) → x < w → getD work (halfOf w (suc u) + x) 0 ≡ newest (λ c. v c x) u
@@ -80,20 +80,20 @@ left-is sp h g y s p l = by (same-or (ratio sp h g) (2 ^ 32))
 
 -- ---- the closed form of the first half: zeros, a crop row comes in, an output row goes out
 module _ (h g : ℕ) (v : ℕ → ℕ) where
-  pub heap-start : heap h g v 0 0 ≡ 0
-  unfolding heap shareBefore since
-  heap-start = let none = sum-zero v 0 in rw none refl
+  pub firstHalf-start : firstHalf h g v 0 0 ≡ 0
+  unfolding firstHalf shareBefore since
+  firstHalf-start = let none = sum-zero v 0 in rw none refl
 
-  pub heap-in : (y u : ℕ) → since h g y ≤ u → wrapAdd (heap h g v y u) (v u) ≡ heap h g v y (suc u)
-  unfolding heap
-  heap-in y u le =
+  pub first-in : (y u : ℕ) → since h g y ≤ u → wrapAdd (firstHalf h g v y u) (v u) ≡ firstHalf h g v y (suc u)
+  unfolding firstHalf
+  first-in y u le =
       let more : suc u - since h g y ≡ suc (u - since h g y) = omega arith in
       let at : v (since h g y + (u - since h g y)) ≡ v u = ap v (omega arith) in
       rw more (omega (arith, sum-suc v (since h g y) (u - since h g y)))
 
-  pub heap-out : ((c : ℕ) → v c < 2 ^ 32) → (y : ℕ) → heap h g v (suc y) (needed h g y) ≡ shareBefore h g v (suc y)
-  unfolding heap shareBefore since
-  heap-out small y =
+  pub first-out : ((c : ℕ) → v c < 2 ^ 32) → (y : ℕ) → firstHalf h g v (suc y) (needed h g y) ≡ shareBefore h g v (suc y)
+  unfolding firstHalf shareBefore since
+  first-out small y =
       let word = newest-word v small (needed h g y) in
       let less = share-le g (restDown h g (needed h g y) y) (newest v (needed h g y)) in
       omega (arith, sum-none-yet v (needed h g y))
@@ -105,7 +105,7 @@ module _ (h g w : ℕ) (v : ℕ → ℕ → ℕ) where
   unfolding newest
   held-zeros work room zeros = record {
     long = room;
-    first = λ m x l. zeros x (omega arith) ∙ sym (heap-start h g (λ c. v c x));
+    first = λ m x l. zeros x (omega arith) ∙ sym (firstHalf-start h g (λ c. v c x));
     second = λ m x l. zeros (w + x) (omega arith);
     newer = λ m x l. zeros (halfOf w 1 + x) (omega arith);
     older = λ m x l. zeros (halfOf w 0 + x) (omega arith);
@@ -138,7 +138,7 @@ module _ (h g w : ℕ) (v : ℕ → ℕ → ℕ) where
         long = rw (rowIn-length h g w u values work room) room;
         first = λ m x l.
             in-first h g w u values work room m x l
-            ∙ rw (held .first m x l, same x l) (heap-in h g (λ c. v c x) y u le);
+            ∙ rw (held .first m x l, same x l) (first-in h g (λ c. v c x) y u le);
         second = λ m x l. in-second h g w u values work room m x l ∙ same x l;
         newer = λ m x l. rw (half-two w u) (in-own h g w u values work room m x l ∙ same x l);
         older = λ m x l.
@@ -166,7 +166,7 @@ module _ (h g w : ℕ) (v : ℕ → ℕ → ℕ) where
       first = λ m x l.
           out-first sp h g w u y work m x l
           ∙ rw (held .second m x l, ← e)
-          (left-is sp h g y (newest (λ c. v c x) (needed h g y)) pg m ∙ sym (heap-out h g (λ c. v c x) (λ c. small c x l) y));
+          (left-is sp h g y (newest (λ c. v c x) (needed h g y)) pg m ∙ sym (first-out h g (λ c. v c x) (λ c. small c x l) y));
       second = λ m x l. out-second sp h g w u y work m x ∙ held .second m x l;
       newer = λ m x l. rw (out-up sp h g w u y work m) (held .newer m x l);
       older = λ m x l. rw (out-up sp h g w u y work m) (held .older m x l);

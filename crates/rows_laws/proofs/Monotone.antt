@@ -21,10 +21,10 @@ use Rattle.rows_schedule.specs.Schedule.{needed, since}
 use Rattle.rows_schedule.proofs.Needed.{needed-le, needed-equal, since-rise}
 use Rattle.rows.specs.Column.{start, over, last, columnSum, carry, shrinkValue, growValue, value}
 use Rattle.rows.specs.Output.{clamp, restDown, share, ratio, byteDown, restUp, blend, byteUp}
-use Rattle.rows.specs.Closed.{newest, shareBefore, heap, scaledByte, scaled}
+use Rattle.rows.specs.Closed.{newest, shareBefore, firstHalf, scaledByte, scaled}
 use Rattle.rows.proofs.Columns.{value-shrink, value-grow, over-small}
 use Rattle.rows_laws.proofs.Columns.{start-step, start-within, slack-small, value-range-511}
-use Rattle.rows_laws.proofs.HeightShrinks.{share-is, share-le, whole-fits, scaled-down, heap-exact, byte-whole, byte-part, ratio-whole}
+use Rattle.rows_laws.proofs.HeightShrinks.{share-is, share-le, whole-fits, scaled-down, first-exact, byte-whole, byte-part, ratio-whole}
 use Rattle.rows_laws.proofs.HeightGrows.{scaled-up}
 
 -- ---- the value of a column
@@ -109,8 +109,8 @@ before-equal h v (suc y) some =
     let none : restDown h h (needed h h y) y ≡ 0 = ap (λ (u : ℕ). restDown h h u y) (needed-equal h y some) ∙ omega arith in
     rw none
 
-heap-equal : (h : ℕ) (v : ℕ → ℕ) (y : ℕ) → 0 < h → shareBefore h h v y + sum v (since h h y) (needed h h y - since h h y) ≡ v y
-heap-equal h v y some =
+firstHalf-equal : (h : ℕ) (v : ℕ → ℕ) (y : ℕ) → 0 < h → shareBefore h h v y + sum v (since h h y) (needed h h y - since h h y) ≡ v y
+firstHalf-equal h v y some =
     rw (before-equal h v y some, since-equal h y some, needed-equal h y some)
     (let count : suc y - y ≡ 1 = omega arith in rw count (omega (arith, sum-one v y)))
 
@@ -164,13 +164,13 @@ module _ (sp h g : ℕ) (v v' : ℕ → ℕ) (y : ℕ) (pos : 0 < sp) (shrinks :
   byte-where-whole : ratio sp h g ≡ 2 ^ 32 → whole h g v' y ≤ 255
   byte-where-whole e =
       let (one, same) = ratio-whole sp h g pos (omega arith) shrinks e in
-      rw same (rw (heap-equal h v' y (omega arith)) (omega (arith, most y (omega arith))))
+      rw same (rw (firstHalf-equal h v' y (omega arith)) (omega (arith, most y (omega arith))))
 
   pub byte-mono-down : scaledByte sp h g v y ≤ scaledByte sp h g v' y
   byte-mono-down =
       let r = first-rises h g v v' y shrinks within le in
       let fits : whole h g v' y ≤ 2 ^ 31 = whole-fits h g y v' sp (omega arith) shrinks within small (λ c l. omega (arith, most c l)) premise in
-      rw (scaled-down sp h g v y shrinks, scaled-down sp h g v' y shrinks, heap-exact h g y v (omega (arith, r .le)), heap-exact h g y v' (omega arith))
+      rw (scaled-down sp h g v y shrinks, scaled-down sp h g v' y shrinks, first-exact h g y v (omega (arith, r .le)), first-exact h g y v' (omega arith))
       (byteDown-mono (ratio sp h g) (whole h g v y) (whole h g v' y) (shareBefore h g v (suc y)) (shareBefore h g v' (suc y)) (r .low) (r .low') (r .le) (r .left) (omega arith) byte-where-whole)
 
 -- ---- a row goes out, g > h
@@ -242,5 +242,5 @@ scaled-byte n m h g p j y = by (le-or-lt g h)
     v c = value (p c) n m j
 
     by : (g ≤ h) ⊎ (h < g) → scaledByte (span n m) h g v y ≤ 255
-    by (inl s) = rw (scaled-down (span n m) h g v y s) (byteDown-byte (ratio (span n m) h g) (heap h g v y (needed h g y)) (shareBefore h g v (suc y)))
+    by (inl s) = rw (scaled-down (span n m) h g v y s) (byteDown-byte (ratio (span n m) h g) (firstHalf h g v y (needed h g y)) (shareBefore h g v (suc y)))
     by (inr s) = rw (scaled-up (span n m) h g v y s) (byteUp-byte (span n m) (blend g (restUp h g (needed h g y) y) (newest v (needed h g y)) (newest v (needed h g y - 1))))

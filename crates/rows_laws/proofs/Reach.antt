@@ -9,7 +9,7 @@ use Rattle.arithmetic.proofs.Orders.{le-or-lt}
 use Rattle.arithmetic.proofs.Sums.{sum-cong}
 use Rattle.rows_schedule.specs.Schedule.{needed, since}
 use Rattle.rows_schedule.proofs.Needed.{since-needed}
-use Rattle.rows.specs.Closed.{newest, shareBefore, heap, scaledByte}
+use Rattle.rows.specs.Closed.{newest, shareBefore, firstHalf, scaledByte}
 
 pub newest-same : (v v' : ℕ → ℕ) (u : ℕ) → ((c : ℕ) → c < u → v c ≡ v' c) → newest v u ≡ newest v' u
 unfolding newest
@@ -22,9 +22,9 @@ module _ (h g : ℕ) (v v' : ℕ → ℕ) where
   share-same zero same = refl
   share-same (suc y) same = rw (newest-same v v' (needed h g y) same)
 
-  pub heap-same : (y u : ℕ) → since h g y ≤ u → ((c : ℕ) → c < u → v c ≡ v' c) → heap h g v y u ≡ heap h g v' y u
-  unfolding heap
-  heap-same y u le same =
+  pub firstHalf-same : (y u : ℕ) → since h g y ≤ u → ((c : ℕ) → c < u → v c ≡ v' c) → firstHalf h g v y u ≡ firstHalf h g v' y u
+  unfolding firstHalf
+  firstHalf-same y u le same =
       rw (share-same y (λ c l. same c (omega arith)), sum-cong v v' (since h g y) (u - since h g y) (λ c a b. same c (omega arith)))
 
   pub scaledByte-same : (sp y : ℕ) → 0 < h → 0 < g → ((c : ℕ) → c < needed h g y → v c ≡ v' c) → scaledByte sp h g v y ≡ scaledByte sp h g v' y
@@ -33,6 +33,6 @@ module _ (h g : ℕ) (v v' : ℕ → ℕ) where
     where
       by : (g ≤ h) ⊎ (h < g) → scaledByte sp h g v y ≡ scaledByte sp h g v' y
       by (inl m) =
-          simp (le-leb g h m, heap-same y (needed h g y) (since-needed h g y ph pg) same, share-same (suc y) same)
+          simp (le-leb g h m, firstHalf-same y (needed h g y) (since-needed h g y ph pg) same, share-same (suc y) same)
       by (inr m) =
           simp (lt-leb g h m, newest-same v v' (needed h g y) same, newest-same v v' (needed h g y - 1) (λ c l. same c (omega arith)))

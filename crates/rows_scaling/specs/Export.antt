@@ -7,7 +7,7 @@ use mathlib.Core.List.{List}
 use lib.ListN.{length, getD}
 use Rattle.arithmetic.specs.Word.{wrapSub}
 use Rattle.arithmetic.specs.FixedPoint.{MULT, FLOOR}
-use Rattle.rows.specs.Output.{clamp}
+use Rattle.rows.specs.Output.{clamp, mixed}
 use Rattle.rows_scaling.specs.Scaling.{within}
 
 -- two halves of w values in the work rows, w bytes of output
@@ -47,10 +47,6 @@ shrinkByte step q w work x = clamp (MULT (wrapSub (getD work x 0) (shrinkLeft st
 unfoldable pub lowByte : List ℕ → ℕ → ℕ
 lowByte work x = getD work x 0 % 256
 
--- ((2^32 - b)×newer + b×older + 2^31) / 2^32
-unfoldable pub mixed : ℕ → ℕ → ℕ → ℕ
-mixed b newer older = ((2 ^ 32 - b) * newer + b * older + 2 ^ 31) / 2 ^ 32
-
--- MULT of that and the factor, FRAC(1, span)
+-- MULT of the two mixed and the factor, FRAC(1, span)
 unfoldable pub growByte : ℕ → ℕ → List ℕ → List ℕ → ℕ → ℕ
 growByte b factor newer older x = clamp (MULT (mixed b (getD newer x 0) (getD older x 0)) factor)

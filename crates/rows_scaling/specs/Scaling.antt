@@ -11,7 +11,16 @@ use Rattle.pixels.specs.declared.Dimensions.{Dimensions}
 use Rattle.pixels.specs.declared.Refusal.the-variants.{OutputLength, WorkLength, NoneReady}
 use Rattle.pixels.specs.Refusals.{cause, first, otherLength, fewWork, bufferIf}
 use Rattle.pixels.specs.Sizes.{pixelLanes, rowBytes, halfValues, workValues, wrongSize}
-use Rattle.rows.specs.WorkRows.{byteOut, rowLeft}
+use Rattle.rows.specs.WorkRows.{Scale, byteOut, rowLeft}
+
+-- what the rows of a crop and a target are scaled by
+abbrev pub scaleOf : Dimensions → Dimensions → Scale
+scaleOf crop target = record {
+  span = span (crop .width) (target .width);
+  h = crop .height;
+  g = target .height;
+  w = halfValues pixelLanes (target .width);
+}
 
 -- from 0 up to below room, x - from
 abbrev pub within : ℕ → ℕ → ℕ → Bool
@@ -39,12 +48,12 @@ scaleNumber crop target u y outBytes workCount =
 unfoldable pub scaledOut : Dimensions → Dimensions → ℕ → ℕ → List ℕ → List ℕ → List ℕ
 scaledOut crop target u y out work =
     bufferIf (scaleNumber crop target u y (length out) (length work))
-    (tabulate (byteOut (span (crop .width) (target .width)) (crop .height) (target .height) (halfValues pixelLanes (target .width)) u y work) (halfValues pixelLanes (target .width)))
+    (tabulate (byteOut (scaleOf crop target) u y work) (scaleOf crop target .w))
     out
 
 -- the work rows
 unfoldable pub scaledWork : Dimensions → Dimensions → ℕ → ℕ → ℕ → List ℕ → List ℕ
 scaledWork crop target u y outBytes work =
     bufferIf (scaleNumber crop target u y outBytes (length work))
-    (rowLeft (span (crop .width) (target .width)) (crop .height) (target .height) (halfValues pixelLanes (target .width)) u y work)
+    (rowLeft (scaleOf crop target) u y work)
     work
