@@ -1,18 +1,19 @@
 -- Sizes and crop pass numbers 1 and 2 exactly if the facts of `Fits` hold: both ways. Assumes nothing.
-use Prim.Native.Nat.{ℕ, _+_, _*_, _≤_, _<_, _^_}
-use mathlib.Core.Path.{_≡_, refl, ap, ap₂, _∙_}
-use mathlib.Core.Bool.{Bool, true, false, cond, _||_, or-true}
+use Prim.Native.Nat.{ℕ, _+_, _*_, _/_, _%_, _≤_, _<_, _^_}
+use mathlib.Core.Path.{_≡_, sym, ap, ap₂, _∙_}
+use mathlib.Core.Bool.{Bool, true, false, cond, not, _||_, or-true}
+use mathlib.Core.Logic.{_⊎_, inl, inr}
 use mathlib.Core.List.{List, [], _∷_}
 use native.Mathlib.Nat.{le-trans, mul-le-mul, mul-le-mul-left}
 use native.Mathlib.Omega.{arith}
 use lib.Dec.{eqb, ltb}
-use borrow.Author.Tests.{eq-eqb, ne-eqb, lt-ltb, le-ltb, eqb-false, ltb-false}
+use borrow.Author.Tests.{eq-eqb, ne-eqb, lt-ltb, le-ltb, eqb-true, eqb-false, ltb-false}
 use Rattle.pixels.specs.declared.Dimensions.{Dimensions}
 use Rattle.pixels.specs.declared.Rect.{Rect}
 use Rattle.pixels.specs.Refusals.{Cause, sizeIf}
-use Rattle.pixels.specs.Sizes.{maxSide, badSide, badSize, emptyCrop, cropBeyond, wrongSize, sizesCauses, sizeNumber, sizesNumber, Side, Fits, sizeOf, derivedSide, scaledWidth, scaledHeight, scaledSize, scaledNumber}
+use Rattle.pixels.specs.Sizes.{maxSide, pixelLanes, pictureBytes, badSide, badSize, emptyCrop, cropBeyond, wrongSize, sizesCauses, sizeNumber, sizesNumber, Side, Fits, sizeOf, derivedSide, scaledWidth, scaledHeight, scaledSize, scaledNumber}
 use Rattle.pixels.proofs.Numbers.{sized-accepted}
-use Rattle.pixels.proofs.Truths.{neither-true}
+use Rattle.pixels.proofs.Truths.{test, neither-true, differ}
 use Rattle.pixels.proofs.Causes.{first-at, first-none, none-applies}
 use Rattle.arithmetic.specs.Quotient.{ceil}
 use Rattle.arithmetic.proofs.Quotients.{ceil-le}
@@ -181,3 +182,19 @@ derived-most own across side other pos o h k = go (eqb side 0)
         le-trans (ceil-le across pos (omega (arith, mul-le-mul-left (own * other) pos)))
         (mul-le-mul {n₁ = own} {m₁ = other} {n₂ = 16384} {m₂ = 4294967296} o (omega arith))
     go false = omega arith
+
+-- a length that is no whole number of pixels is no picture's
+pub ragged : (n w h : ℕ) → (n % pixelLanes ≡ 0 → ⊥) → true ≡ not (eqb n (pictureBytes pixelLanes w h))
+ragged n w h e = sym (differ n (pictureBytes pixelLanes w h) (λ f. e (omega arith)))
+
+-- a length in whole pixels, compared pixel by pixel
+pub pixels-alike : (n w h count : ℕ) → n % pixelLanes ≡ 0 → count ≡ w * h → not (eqb (n / pixelLanes) count) ≡ not (eqb n (pictureBytes pixelLanes w h))
+pixels-alike n w h count whole is = by (test (eqb (n / pixelLanes) count))
+  where
+    by : (eqb (n / pixelLanes) count ≡ true) ⊎ (eqb (n / pixelLanes) count ≡ false) → not (eqb (n / pixelLanes) count) ≡ not (eqb n (pictureBytes pixelLanes w h))
+    by (inl e) =
+        let q : n ≡ pictureBytes pixelLanes w h = omega (arith, eqb-true (n / pixelLanes) count e) in
+        simp (e, eq-eqb n (pictureBytes pixelLanes w h) q)
+    by (inr e) =
+        let q : n ≡ pictureBytes pixelLanes w h → ⊥ = λ f. eqb-false (n / pixelLanes) count e (omega arith) in
+        simp (e, ne-eqb n (pictureBytes pixelLanes w h) q)

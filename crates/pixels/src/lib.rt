@@ -3,6 +3,7 @@
 pub use sizes::bad_side;
 pub use sizes::bad_size;
 pub use sizes::check_sizes;
+pub use sizes::wrong_length;
 
 mod layout;
 mod sizes;

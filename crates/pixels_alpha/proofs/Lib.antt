@@ -1,3 +1,3 @@
 pub mod Planes
-pub mod Numbers
+pub mod Lengths
 pub mod Flags

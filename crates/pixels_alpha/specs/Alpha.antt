@@ -1,7 +1,7 @@
 -- The alpha of a whole picture (document 01, "Lanes" and "Beside the job"): its flag, its length, and apply_alpha_plane. Assumes nothing.
 use Prim.Native.Nat.{ℕ, zero, suc, _*_, _/_, _%_}
 use mathlib.Core.Bool.{Bool, false, cond, not, _||_}
-use mathlib.Core.List.{List, [], _∷_}
+use mathlib.Core.List.{List, [], _∷_, _++_}
 use lib.Dec.{eqb}
 use lib.ListN.{length, getD}
 use Rattle.arithmetic.specs.Matte.{laneOf}
@@ -9,7 +9,7 @@ use Rattle.arithmetic.specs.Table.{tabulate}
 use Rattle.pixels.specs.declared.Dimensions.{Dimensions}
 use Rattle.pixels.specs.declared.PixelLayout.{PixelLayout}
 use Rattle.pixels.specs.declared.Refusal.the-variants.{PixelBufferMismatch}
-use Rattle.pixels.specs.Refusals.{first, otherLength, flagIf, bufferIf}
+use Rattle.pixels.specs.Refusals.{Cause, first, otherLength, flagIf, bufferIf}
 use Rattle.pixels.specs.Sizes.{pixelLanes, pictureBytes, wrongSize}
 use Rattle.pixels.specs.Layout.{alphaLane, placeOf, alphaAt}
 
@@ -27,12 +27,14 @@ unfoldable pub argbHasAlpha : List ℕ → Bool
 argbHasAlpha argb = someClear (λ i. laneOf (getD argb i 0) alphaLane) (length argb)
 
 -- ---- a picture of its size in n bytes: 1, then 3
-unfoldable pub pictureNumber : Dimensions → ℕ → ℕ
-pictureNumber size n =
-    first
-    (wrongSize size
+abbrev pub pictureCauses : Dimensions → ℕ → List Cause
+pictureCauses size n =
+    wrongSize size
     ∷ otherLength n (pictureBytes pixelLanes (size .width) (size .height)) PixelBufferMismatch
-    ∷ [])
+    ∷ []
+
+unfoldable pub pictureNumber : Dimensions → ℕ → ℕ
+pictureNumber size n = first (pictureCauses size n)
 
 -- its flag
 unfoldable pub pictureFlag : Dimensions → PixelLayout → List ℕ → Bool
@@ -46,13 +48,11 @@ unfoldable pub withAlpha : PixelLayout → List ℕ → List ℕ → List ℕ
 withAlpha layout pixels plane = tabulate (alphaByte (placeOf layout alphaLane) pixels plane) (length pixels)
 
 -- 1, then 3 for pixels or plane of another length
+abbrev pub alphaCauses : Dimensions → ℕ → ℕ → List Cause
+alphaCauses size n m = pictureCauses size n ++ (otherLength m (size .width * size .height) PixelBufferMismatch ∷ [])
+
 unfoldable pub alphaNumber : Dimensions → ℕ → ℕ → ℕ
-alphaNumber size n m =
-    first
-    (wrongSize size
-    ∷ otherLength n (pictureBytes pixelLanes (size .width) (size .height)) PixelBufferMismatch
-    ∷ otherLength m (size .width * size .height) PixelBufferMismatch
-    ∷ [])
+alphaNumber size n m = first (alphaCauses size n m)
 
 -- the picture afterwards, and its flag
 unfoldable pub alphaPixels : Dimensions → PixelLayout → List ℕ → List ℕ → List ℕ

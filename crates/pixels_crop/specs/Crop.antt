@@ -8,7 +8,7 @@ use Rattle.pixels.specs.declared.Dimensions.{Dimensions}
 use Rattle.pixels.specs.declared.Rect.{Rect}
 use Rattle.pixels.specs.declared.PixelLayout.{PixelLayout}
 use Rattle.pixels.specs.declared.Refusal.the-variants.{PixelBufferMismatch, OutputLength}
-use Rattle.pixels.specs.Refusals.{first, otherLength, flagIf, bufferIf}
+use Rattle.pixels.specs.Refusals.{Cause, first, otherLength, flagIf, bufferIf}
 use Rattle.pixels_alpha.specs.Alpha.{hasAlpha}
 use Rattle.pixels.specs.Sizes.{pixelLanes, rowBytes, pictureBytes, sizesCauses}
 
@@ -30,13 +30,15 @@ unfoldable pub cropped : Dimensions → Rect → List ℕ → List ℕ
 cropped source crop pixels = croppedRows pixels (source .width) crop (crop .height)
 
 -- 1 to 4 ascending, of n bytes of pixels and m of output
-unfoldable pub cropNumber : Dimensions → Rect → ℕ → ℕ → ℕ
-cropNumber source crop n m =
-    first
-    (sizesCauses source crop source
+abbrev pub cropCauses : Dimensions → Rect → ℕ → ℕ → List Cause
+cropCauses source crop n m =
+    sizesCauses source crop source
     ++ (otherLength n (pictureBytes pixelLanes (source .width) (source .height)) PixelBufferMismatch
     ∷ otherLength m (pictureBytes pixelLanes (crop .width) (crop .height)) OutputLength
-    ∷ []))
+    ∷ [])
+
+unfoldable pub cropNumber : Dimensions → Rect → ℕ → ℕ → ℕ
+cropNumber source crop n m = first (cropCauses source crop n m)
 
 -- the output afterwards; "and computes the flag anew"
 unfoldable pub cropOut : Dimensions → Rect → List ℕ → List ℕ → List ℕ

@@ -1,14 +1,15 @@
 // Packing and unpacking slices of pixels (document 01, "Lanes"; the Rust: pack_pixels, unpack_pixels, argb_has_alpha).
 use pixels::Checked;
+use pixels::PIXEL_LANES;
 use pixels::PixelLayout;
 use pixels::Refusal;
 ghost use mathlib.Core.Path.{_≡_};
 ghost use mathlib.Core.List.{_++_};
 ghost use Prim.Native.Nat.{_+_, _*_, _/_, _≤_};
 ghost use lib.ListN.{length, take, drop};
-ghost use Rattle.pixels.specs.Refusals.{checkedNumber, bufferIf};
+ghost use Rattle.pixels.specs.Refusals.{checkedNumber};
 ghost use Rattle.pixels.specs.Sizes.{pixelLanes};
-ghost use Rattle.pixels.specs.Layout.{packedPixels, unpackedPixels, packNumber, unpackNumber};
+ghost use Rattle.pixels.specs.Layout.{packedPixels, unpackedPixels, packNumber, packOut, unpackNumber, unpackOut};
 ghost use Rattle.pixels_alpha.specs.Alpha.{argbHasAlpha};
 
 // Stores a pixel's bytes from at on.
@@ -28,7 +29,7 @@ fn pack_into(layout: PixelLayout, argb: &[u32], out: &mut [u8])
 {
     let mut i = 0;
     while i < argb.len() {
-        put(out, 4 * i, layout.pack(argb[i]));
+        put(out, PIXEL_LANES * i, layout.pack(argb[i]));
         i += 1;
     }
 }
@@ -36,12 +37,12 @@ fn pack_into(layout: PixelLayout, argb: &[u32], out: &mut [u8])
 // The Rust's pack_pixels. Rules out: a longer buffer taken; a buffer written although it was refused; pixels in reverse.
 pub fn pack_pixels(layout: PixelLayout, argb: &[u32], out: &mut [u8]) -> Checked
     ensures number { λ r. ⌜ checkedNumber r ≡ packNumber (length (now (argb .entry))) (length (now (out .entry))) ⌝ }
-    ensures out { λ _. ⌜ now (out .exit) ≡ bufferIf (packNumber (length (now (argb .entry))) (length (now (out .entry)))) (packedPixels layout (now (argb .entry))) (now (out .entry)) ⌝ }
+    ensures out { λ _. ⌜ now (out .exit) ≡ packOut layout (now (argb .entry)) (now (out .entry)) ⌝ }
 {
-    if out.len() % 4 != 0 {
+    if out.len() % PIXEL_LANES != 0 {
         return Checked::Refused(Refusal::OutputLength);
     }
-    if out.len() / 4 != argb.len() {
+    if out.len() / PIXEL_LANES != argb.len() {
         return Checked::Refused(Refusal::OutputLength);
     }
     pack_into(layout, argb, out);
@@ -54,7 +55,7 @@ fn unpack_into(layout: PixelLayout, bytes: &[u8], out: &mut [u32])
 {
     let mut i = 0;
     while i < out.len() {
-        let at = 4 * i;
+        let at = PIXEL_LANES * i;
         out[i] = layout.unpack([bytes[at], bytes[at + 1], bytes[at + 2], bytes[at + 3]]);
         i += 1;
     }
@@ -63,9 +64,9 @@ fn unpack_into(layout: PixelLayout, bytes: &[u8], out: &mut [u32])
 // The Rust's unpack_pixels. Rules out: trailing bytes told as a mistake; a buffer with one value more taken; lanes exchanged.
 pub fn unpack_pixels(layout: PixelLayout, bytes: &[u8], out: &mut [u32]) -> Checked
     ensures number { λ r. ⌜ checkedNumber r ≡ unpackNumber (length (now (bytes .entry))) (length (now (out .entry))) ⌝ }
-    ensures out { λ _. ⌜ now (out .exit) ≡ bufferIf (unpackNumber (length (now (bytes .entry))) (length (now (out .entry)))) (unpackedPixels layout (now (bytes .entry))) (now (out .entry)) ⌝ }
+    ensures out { λ _. ⌜ now (out .exit) ≡ unpackOut layout (now (bytes .entry)) (now (out .entry)) ⌝ }
 {
-    if out.len() != bytes.len() / 4 {
+    if out.len() != bytes.len() / PIXEL_LANES {
         return Checked::Refused(Refusal::OutputLength);
     }
     unpack_into(layout, bytes, out);

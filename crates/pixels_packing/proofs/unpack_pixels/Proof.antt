@@ -2,12 +2,14 @@
 use Rattle.pixels.proofs.Packing.{unpack-refused, unpack-passes}
 use Rattle.pixels.proofs.Numbers.{buffer-refused, buffer-written}
 use Rattle.pixels.specs.declared.Refusal.the-variants.{OutputLength}
+use Rattle.pixels.specs.Layout.{unpackOut}
 use lib.ListN.{length}
 use borrow.Author.Needs.{needs}
 use Rattle.pixels_packing.proofs.unpack_pixels.Statement.{statement}
 use Rattle.pixels_packing.proofs.unpack_pixels.Tie as tie
 
 returns : tie.Need-returns
+unfolding unpackOut
 returns c = let a = c .before .before .before .args in buffer-refused OutputLength _ _ _ (unpack-refused (length (a .bytes .now)) (length (a .out .now)) (c .if1 .taken))
 
 unpack-into-requires : tie.Need-unpack-into-requires
@@ -17,6 +19,7 @@ same-length : tie.Need-same-length
 same-length c = search needs
 
 returns-2 : tie.Need-returns-2
+unfolding unpackOut
 returns-2 c = let a = c .before .before .before .before .before .before .before .args in buffer-written _ _ _ (unpack-passes (length (a .bytes .now)) (length (a .out .now)) (c .before .before .before .before .if1 .left)) (c .before .before .unpack-into .ensures)
 
 pub unpack-pixels-spec : {M : Type 1} → statement M
