@@ -10,9 +10,9 @@ use borrow.Author.Tests.{ne-eqb}
 use Rattle.arithmetic.specs.FixedPoint.{FRAC}
 use Rattle.arithmetic.proofs.Products.{times}
 use Rattle.arithmetic.proofs.FixedPoints.{frac-high, frac-low, frac-word}
-use Rattle.rows.specs.Output.{blend}
+use Rattle.rows.specs.Output.{mixed, blend}
 
--- rounded to the nearest
+-- rounded to the nearest; `mixed` is this with A = 2^32 - B
 abbrev blended : ℕ → ℕ → ℕ → ℕ → ℕ
 blended A B x y = (A * x + B * y + 2 ^ 31) / 2 ^ 32
 
@@ -38,7 +38,7 @@ pub record Mixed (k G j t : ℕ) : Type 0 where
 
 -- the value of an output row that lies d of g - 1 steps back from the newer value to the older
 pub blend-mixed : (g d newer older k : ℕ) → d < g - 1 → newer ≤ k → older ≤ k → Mixed k (g - 1) (blend g d newer older) ((g - 1 - d) * newer + d * older)
-unfolding blend
+unfolding blend mixed
 blend-mixed g zero newer older k back most most' =
     let j : blend g 0 newer older ≡ newer = refl in
     let t : (g - 1 - 0) * newer + 0 * older ≡ (g - 1) * newer = (let q : g - 1 - 0 ≡ g - 1 = omega arith in rw q (omega arith)) in
@@ -47,7 +47,7 @@ blend-mixed g (suc d) newer older k back most most' =
     rw (let q : eqb (suc d) 0 ≡ false = ne-eqb (suc d) 0 (omega arith) in q)
     (go (FRAC (suc d) (g - 1)) (frac-word (suc d) (g - 1)) (frac-high (suc d) (g - 1) back) (frac-low (suc d) (g - 1) back))
   where
-    go : (b : ℕ) → b < 2 ^ 32 → b * (g - 1) ≤ suc d * 2 ^ 32 → suc d * 2 ^ 32 < b * (g - 1) + (g - 1) → Mixed k (g - 1) (((2 ^ 32 - b) * newer + b * older + 2 ^ 31) / 2 ^ 32) ((g - 1 - suc d) * newer + suc d * older)
+    go : (b : ℕ) → b < 2 ^ 32 → b * (g - 1) ≤ suc d * 2 ^ 32 → suc d * 2 ^ 32 < b * (g - 1) + (g - 1) → Mixed k (g - 1) (mixed b newer older) ((g - 1 - suc d) * newer + suc d * older)
     go b word high low =
         let all : 2 ^ 32 - b + b ≡ 2 ^ 32 = omega arith in
         let steps : suc d + (g - 1 - suc d) ≡ g - 1 = omega arith in

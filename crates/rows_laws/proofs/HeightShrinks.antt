@@ -22,7 +22,7 @@ use Rattle.rows_schedule.specs.Schedule.{needed, since}
 use Rattle.rows_schedule.proofs.Needed.{down-low, down-high, since-rise, needed-le}
 use Rattle.rows.specs.Output.{restDown, share, ratio, byteDown, clamp}
 use Rattle.rows.specs.Closed.{newest, shareBefore, firstHalf, scaledByte}
-use Rattle.rows.specs.Mean.{Near}
+use Rattle.rows.specs.Mean.{Near, sumBound}
 use Rattle.rows_laws.proofs.Close.{Close, close-weighted, near-clamp}
 use Rattle.rows_laws.proofs.Newest.{newest-at, newest-most}
 
@@ -126,7 +126,7 @@ module _ (h g y : ℕ) (v : ℕ → ℕ) (W : ℕ) (pos : 0 < g) (low : g ≤ h)
   rest-after = shared h g v W (suc y) pos low small most within
 
   -- under the premise nothing wraps
-  pub whole-fits : W * h ≤ 4194304 * g → whole h g v y ≤ 2 ^ 31
+  pub whole-fits : W * h ≤ sumBound * g → whole h g v y ≤ 2 ^ 31
   whole-fits premise =
       let d : needed h g y * g - suc y * h ≤ g = omega (arith, down-high h g y pos low) in
       let r : restAfter h g v y ≤ g * (256 * W) =
@@ -186,7 +186,7 @@ byte-near a g h W s S T slack pos low small high deep close = go (MULT a (g * 2 
       below = omega (arith, c, deep, close .below, mul-le-mul-right h slack, mul-le-mul-left W low, mul-le-mul-right (W * h) small);
     }
 
-module _ (h g y : ℕ) (v e : ℕ → ℕ) (W s : ℕ) (pos : 0 < g) (low : g ≤ h) (within : y < g) (small : g ≤ 16384) (narrow : W ≤ 16384) (slack : s < W) (premise : W * h ≤ 4194304 * g) (near : (c : ℕ) → c < h → Close s (v c) (e c)) (bytes : (c : ℕ) → c < h → e c ≤ 255 * W) where
+module _ (h g y : ℕ) (v e : ℕ → ℕ) (W s : ℕ) (pos : 0 < g) (low : g ≤ h) (within : y < g) (small : g ≤ 16384) (narrow : W ≤ 16384) (slack : s < W) (premise : W * h ≤ sumBound * g) (near : (c : ℕ) → c < h → Close s (v c) (e c)) (bytes : (c : ℕ) → c < h → e c ≤ 255 * W) where
   abbrev S : ℕ
   S = weighed h g v y
 

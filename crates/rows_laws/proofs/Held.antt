@@ -18,20 +18,20 @@ use Rattle.arithmetic.proofs.FixedPoints.{FLOOR-le}
 use Rattle.rows_schedule.specs.Schedule.{needed, since}
 use Rattle.rows_schedule.proofs.Needed.{needed-some, needed-equal}
 use Rattle.rows.specs.Output.{restDown, share, ratio, leftDown}
-use Rattle.rows.specs.WorkRows.{rowIn, halfOf, byteOut, rowLeft}
+use Rattle.rows.specs.WorkRows.{Scale, rowIn, halfOf, byteOut, rowLeft}
 use Rattle.rows.specs.Closed.{newest, shareBefore, firstHalf, scaledByte}
 use Rattle.rows_laws.proofs.HeightShrinks.{share-le}
 use Rattle.rows_laws.proofs.WorkRows.{half-two, half-room, in-first, in-second, in-own, in-other, rowIn-length, out-up, out-first, out-second, rowLeft-length}
 
--- w values in each half
-pub record Held (h g w : ℕ) (v : ℕ → ℕ → ℕ) (u y : ℕ) (work : List ℕ) : Type 0 where
-  pub long : w + w ≤ length work
+-- s .w values in each half
+pub record Held (s : Scale) (v : ℕ → ℕ → ℕ) (u y : ℕ) (work : List ℕ) : Type 0 where
+  pub long : s .w + s .w ≤ length work
   -- g ≤ h
-  pub first : g ≤ h → (x : ℕ) → x < w → getD work x 0 ≡ firstHalf h g (λ c. v c x) y u
-  pub second : g ≤ h → (x : ℕ) → x < w → getD work (w + x) 0 ≡ newest (λ c. v c x) u
+  pub first : s .g ≤ s .h → (x : ℕ) → x < s .w → getD work x 0 ≡ firstHalf (s .h) (s .g) (λ c. v c x) y u
+  pub second : s .g ≤ s .h → (x : ℕ) → x < s .w → getD work (s .w + x) 0 ≡ newest (λ c. v c x) u
   -- g > h: crop row u - 1 is in the half that row u + 1 will go to
-  pub newer : h < g → (x : ℕ) → x < w → getD work (halfOf w (suc u) + x) 0 ≡ newest (λ c. v c x) u
-  pub older : h < g → (x : ℕ) → x < w → getD work (halfOf w u + x) 0 ≡ newest (λ c. v c x) (u - 1)
+  pub newer : s .h < s .g → (x : ℕ) → x < s .w → getD work (halfOf (s .w) (suc u) + x) 0 ≡ newest (λ c. v c x) u
+  pub older : s .h < s .g → (x : ℕ) → x < s .w → getD work (halfOf (s .w) u + x) 0 ≡ newest (λ c. v c x) (u - 1)
 
 -- ---- f is a word, and 0 where q is 2^32
 pub newest-word : (v : ℕ → ℕ) → ((c : ℕ) → v c < 2 ^ 32) → (u : ℕ) → newest v u < 2 ^ 32
@@ -99,75 +99,75 @@ module _ (h g : ℕ) (v : ℕ → ℕ) where
       omega (arith, sum-none-yet v (needed h g y))
 
 -- ---- the two halves
-module _ (h g w : ℕ) (v : ℕ → ℕ → ℕ) where
+module _ (s : Scale) (v : ℕ → ℕ → ℕ) where
   -- all zeros, as start leaves them
-  pub held-zeros : (work : List ℕ) → w + w ≤ length work → ((i : ℕ) → i < w + w → getD work i 0 ≡ 0) → Held h g w v 0 0 work
+  pub held-zeros : (work : List ℕ) → s .w + s .w ≤ length work → ((i : ℕ) → i < s .w + s .w → getD work i 0 ≡ 0) → Held s v 0 0 work
   unfolding newest
   held-zeros work room zeros = record {
     long = room;
-    first = λ m x l. zeros x (omega arith) ∙ sym (firstHalf-start h g (λ c. v c x));
-    second = λ m x l. zeros (w + x) (omega arith);
-    newer = λ m x l. zeros (halfOf w 1 + x) (omega arith);
-    older = λ m x l. zeros (halfOf w 0 + x) (omega arith);
+    first = λ m x l. zeros x (omega arith) ∙ sym (firstHalf-start (s .h) (s .g) (λ c. v c x));
+    second = λ m x l. zeros (s .w + x) (omega arith);
+    newer = λ m x l. zeros (halfOf (s .w) 1 + x) (omega arith);
+    older = λ m x l. zeros (halfOf (s .w) 0 + x) (omega arith);
   }
 
-  pub held-start : (rest : List ℕ) → Held h g w v 0 0 (replicate (w + w) 0 ++ rest)
+  pub held-start : (rest : List ℕ) → Held s v 0 0 (replicate (s .w + s .w) 0 ++ rest)
   held-start rest =
-      held-zeros (replicate (w + w) 0 ++ rest)
-      (omega (arith, length-append (replicate (w + w) 0) rest, length-replicate {A = ℕ} (w + w) 0))
-      (λ i l. List·getD-append (replicate (w + w) 0) rest 0 i (rw length-replicate l) ∙ getD-replicate (w + w) i 0 0 l)
+      held-zeros (replicate (s .w + s .w) 0 ++ rest)
+      (omega (arith, length-append (replicate (s .w + s .w) 0) rest, length-replicate {A = ℕ} (s .w + s .w) 0))
+      (λ i l. List·getD-append (replicate (s .w + s .w) 0) rest 0 i (rw length-replicate l) ∙ getD-replicate (s .w + s .w) i 0 0 l)
 
   -- only the two halves count
-  pub held-same : (u y : ℕ) (a b : List ℕ) → w + w ≤ length b → ((i : ℕ) → i < w + w → getD b i 0 ≡ getD a i 0)
-      → Held h g w v u y a → Held h g w v u y b
+  pub held-same : (u y : ℕ) (a b : List ℕ) → s .w + s .w ≤ length b → ((i : ℕ) → i < s .w + s .w → getD b i 0 ≡ getD a i 0)
+      → Held s v u y a → Held s v u y b
   held-same u y a b room same held = record {
     long = room;
     first = λ m x l. same x (omega arith) ∙ held .first m x l;
-    second = λ m x l. same (w + x) (omega arith) ∙ held .second m x l;
-    newer = λ m x l. same (halfOf w (suc u) + x) (omega (arith, half-room w (suc u))) ∙ held .newer m x l;
-    older = λ m x l. same (halfOf w u + x) (omega (arith, half-room w u)) ∙ held .older m x l;
+    second = λ m x l. same (s .w + x) (omega arith) ∙ held .second m x l;
+    newer = λ m x l. same (halfOf (s .w) (suc u) + x) (omega (arith, half-room (s .w) (suc u))) ∙ held .newer m x l;
+    older = λ m x l. same (halfOf (s .w) u + x) (omega (arith, half-room (s .w) u)) ∙ held .older m x l;
   }
 
   -- crop row u comes in
-  pub held-in : (u y : ℕ) (values : ℕ → ℕ) (work : List ℕ) → since h g y ≤ u → ((x : ℕ) → x < w → values x ≡ v u x)
-      → Held h g w v u y work → Held h g w v (suc u) y (rowIn h g w u values work)
+  pub held-in : (u y : ℕ) (values : ℕ → ℕ) (work : List ℕ) → since (s .h) (s .g) y ≤ u → ((x : ℕ) → x < s .w → values x ≡ v u x)
+      → Held s v u y work → Held s v (suc u) y (rowIn s u values work)
   unfolding newest
   held-in u y values work le same held =
       let room = held .long in
       record {
-        long = rw (rowIn-length h g w u values work room) room;
+        long = rw (rowIn-length s u values work room) room;
         first = λ m x l.
-            in-first h g w u values work room m x l
-            ∙ rw (held .first m x l, same x l) (first-in h g (λ c. v c x) y u le);
-        second = λ m x l. in-second h g w u values work room m x l ∙ same x l;
-        newer = λ m x l. rw (half-two w u) (in-own h g w u values work room m x l ∙ same x l);
+            in-first s u values work room m x l
+            ∙ rw (held .first m x l, same x l) (first-in (s .h) (s .g) (λ c. v c x) y u le);
+        second = λ m x l. in-second s u values work room m x l ∙ same x l;
+        newer = λ m x l. rw (half-two (s .w) u) (in-own s u values work room m x l ∙ same x l);
         older = λ m x l.
             let z : u ≡ suc u - 1 = omega arith in
-            in-other h g w u values work room m x l ∙ held .newer m x l ∙ ap (newest (λ c. v c x)) z;
+            in-other s u values work room m x l ∙ held .newer m x l ∙ ap (newest (λ c. v c x)) z;
       }
 
   -- output row y goes out, the last crop row that it needs being the newest
-  module _ (u y : ℕ) (work : List ℕ) (ph : 0 < h) (pg : 0 < g) (e : needed h g y ≡ u) (held : Held h g w v u y work) where
-    pub held-byte : (sp x : ℕ) → x < w → byteOut sp h g w u y work x ≡ scaledByte sp h g (λ c. v c x) y
+  module _ (u y : ℕ) (work : List ℕ) (ph : 0 < s .h) (pg : 0 < s .g) (e : needed (s .h) (s .g) y ≡ u) (held : Held s v u y work) where
+    pub held-byte : (x : ℕ) → x < s .w → byteOut s u y work x ≡ scaledByte (s .span) (s .h) (s .g) (λ c. v c x) y
     unfolding byteOut scaledByte shareBefore
-    held-byte sp x l = by (le-or-lt g h)
+    held-byte x l = by (le-or-lt (s .g) (s .h))
       where
-        back : halfOf w (u - 1) ≡ halfOf w (suc u)
-        back = let some : 0 < needed h g y = needed-some h g y ph pg in let z : suc (suc (u - 1)) ≡ suc u = omega arith in sym (half-two w (u - 1)) ∙ ap (halfOf w) z
+        back : halfOf (s .w) (u - 1) ≡ halfOf (s .w) (suc u)
+        back = let some : 0 < needed (s .h) (s .g) y = needed-some (s .h) (s .g) y ph pg in let z : suc (suc (u - 1)) ≡ suc u = omega arith in sym (half-two (s .w) (u - 1)) ∙ ap (halfOf (s .w)) z
 
-        by : (g ≤ h) ⊎ (h < g) → byteOut sp h g w u y work x ≡ scaledByte sp h g (λ c. v c x) y
-        by (inl m) = simp (le-leb g h m, e, held .first m x l, held .second m x l)
-        by (inr m) = rw back (simp (lt-leb g h m, e, held .newer m x l, held .older m x l))
+        by : (s .g ≤ s .h) ⊎ (s .h < s .g) → byteOut s u y work x ≡ scaledByte (s .span) (s .h) (s .g) (λ c. v c x) y
+        by (inl m) = simp (le-leb (s .g) (s .h) m, e, held .first m x l, held .second m x l)
+        by (inr m) = rw back (simp (lt-leb (s .g) (s .h) m, e, held .newer m x l, held .older m x l))
 
-    pub held-out : (sp : ℕ) → ((c x : ℕ) → x < w → v c x < 2 ^ 32) → Held h g w v u (suc y) (rowLeft sp h g w u y work)
+    pub held-out : ((c x : ℕ) → x < s .w → v c x < 2 ^ 32) → Held s v u (suc y) (rowLeft s u y work)
     unfolding shareBefore
-    held-out sp small = record {
-      long = rw (rowLeft-length sp h g w u y work (omega (arith, held .long))) (held .long);
+    held-out small = record {
+      long = rw (rowLeft-length s u y work (omega (arith, held .long))) (held .long);
       first = λ m x l.
-          out-first sp h g w u y work m x l
+          out-first s u y work m x l
           ∙ rw (held .second m x l, ← e)
-          (left-is sp h g y (newest (λ c. v c x) (needed h g y)) pg m ∙ sym (first-out h g (λ c. v c x) (λ c. small c x l) y));
-      second = λ m x l. out-second sp h g w u y work m x ∙ held .second m x l;
-      newer = λ m x l. rw (out-up sp h g w u y work m) (held .newer m x l);
-      older = λ m x l. rw (out-up sp h g w u y work m) (held .older m x l);
+          (left-is (s .span) (s .h) (s .g) y (newest (λ c. v c x) (needed (s .h) (s .g) y)) pg m ∙ sym (first-out (s .h) (s .g) (λ c. v c x) (λ c. small c x l) y));
+      second = λ m x l. out-second s u y work m x ∙ held .second m x l;
+      newer = λ m x l. rw (out-up s u y work m) (held .newer m x l);
+      older = λ m x l. rw (out-up s u y work m) (held .older m x l);
     }

@@ -20,7 +20,8 @@ use Rattle.arithmetic.proofs.FixedPoints.{MULT-mono, FLOOR-mono, left-mono}
 use Rattle.rows_schedule.specs.Schedule.{needed, since}
 use Rattle.rows_schedule.proofs.Needed.{needed-le, needed-equal, since-rise}
 use Rattle.rows.specs.Column.{start, over, last, columnSum, carry, shrinkValue, growValue, value}
-use Rattle.rows.specs.Output.{clamp, restDown, share, ratio, byteDown, restUp, blend, byteUp}
+use Rattle.rows.specs.Output.{clamp, restDown, share, ratio, byteDown, restUp, mixed, blend, byteUp}
+use Rattle.rows.specs.Mean.{sumBound}
 use Rattle.rows.specs.Closed.{newest, shareBefore, firstHalf, scaledByte, scaled}
 use Rattle.rows.proofs.Columns.{value-shrink, value-grow, over-small}
 use Rattle.rows_laws.proofs.Columns.{start-step, start-within, slack-small, value-range-511}
@@ -159,7 +160,7 @@ module _ (h g : ℕ) (v v' : ℕ → ℕ) (y : ℕ) (shrinks : g ≤ h) (within 
           newer (share-le g d (v (a + k))) (share-le g d (v' (a + k))) (share-left g d newer))
 
 -- the byte of output row y is monotone in the values of the crop rows; of values up to 511 / 2 × span, which is 255 for span 1
-module _ (sp h g : ℕ) (v v' : ℕ → ℕ) (y : ℕ) (pos : 0 < sp) (shrinks : g ≤ h) (small : g ≤ 16384) (within : y < g) (premise : sp * h ≤ 4194304 * g) (le : (c : ℕ) → c < h → v c ≤ v' c) (most : (c : ℕ) → c < h → 2 * v' c ≤ 511 * sp) where
+module _ (sp h g : ℕ) (v v' : ℕ → ℕ) (y : ℕ) (pos : 0 < sp) (shrinks : g ≤ h) (small : g ≤ 16384) (within : y < g) (premise : sp * h ≤ sumBound * g) (le : (c : ℕ) → c < h → v c ≤ v' c) (most : (c : ℕ) → c < h → 2 * v' c ≤ 511 * sp) where
   -- q is 2^32 for span 1 and equal heights
   byte-where-whole : ratio sp h g ≡ 2 ^ 32 → whole h g v' y ≤ 255
   byte-where-whole e =
@@ -177,7 +178,7 @@ module _ (sp h g : ℕ) (v v' : ℕ → ℕ) (y : ℕ) (pos : 0 < sp) (shrinks :
 
 -- with weights that add up to 2^32
 pub blend-mono : (g d : ℕ) {x x' o o' : ℕ} → x ≤ x' → o ≤ o' → blend g d x o ≤ blend g d x' o'
-unfolding blend
+unfolding blend mixed
 blend-mono g zero hx ho = hx
 blend-mono g (suc d) {x} {x'} {o} {o'} hx ho =
     rw (ne-eqb (suc d) 0 (λ e. omega arith))
@@ -200,7 +201,7 @@ byte-mono-up sp h g v v' y some grows within le =
 -- ---- joined
 
 -- lighter in, no darker out. The premise is the distance's where the height does not grow; where it grows there is none
-pub scaled-mono : (n m h g : ℕ) (p p' : ℕ → ℕ → ℕ) (j y : ℕ) → 0 < n → m ≤ 16384 → 0 < h → g ≤ 16384 → j < m → y < g → (g ≤ h → span n m * h ≤ 4194304 * g)
+pub scaled-mono : (n m h g : ℕ) (p p' : ℕ → ℕ → ℕ) (j y : ℕ) → 0 < n → m ≤ 16384 → 0 < h → g ≤ 16384 → j < m → y < g → (g ≤ h → span n m * h ≤ sumBound * g)
     → ((c i : ℕ) → c < h → i < n → p c i ≤ p' c i) → ((c i : ℕ) → c < h → i < n → p' c i ≤ 255) → scaled n m h g p j y ≤ scaled n m h g p' j y
 unfolding scaled
 scaled-mono n m h g p p' j y wide small high low column row premise le bytes = by (le-or-lt g h)

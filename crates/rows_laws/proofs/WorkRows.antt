@@ -16,7 +16,7 @@ use Rattle.arithmetic.specs.Table.{tabulate}
 use Rattle.arithmetic.proofs.Orders.{le-or-lt}
 use Rattle.arithmetic.proofs.Tables.{length-tabulate, getD-table, getD-beyond, drop-table}
 use Rattle.rows.specs.Output.{restDown, share, ratio, leftDown}
-use Rattle.rows.specs.WorkRows.{written, added, rowIn, halfOf, rowLeft}
+use Rattle.rows.specs.WorkRows.{Scale, written, added, rowIn, halfOf, rowLeft}
 
 -- ---- a table over the first w values
 module _ (w : ℕ) (f : ℕ → ℕ) (s : List ℕ) where
@@ -84,103 +84,103 @@ half-room w c = by (parity c)
     by (inr e) = rw (half-odd w c e) (omega arith)
 
 -- ---- a crop row comes in
-module _ (h g w c : ℕ) (values : ℕ → ℕ) (work : List ℕ) where
+module _ (s : Scale) (c : ℕ) (values : ℕ → ℕ) (work : List ℕ) where
   sum-of : ℕ → ℕ
-  sum-of x = wrapAdd (getD (behind w values work) x 0) (getD (behind w values work) (w + x) 0)
+  sum-of x = wrapAdd (getD (behind (s .w) values work) x 0) (getD (behind (s .w) values work) (s .w + x) 0)
 
-  in-down : g ≤ h → rowIn h g w c values work ≡ written w sum-of (behind w values work)
+  in-down : s .g ≤ s .h → rowIn s c values work ≡ written (s .w) sum-of (behind (s .w) values work)
   unfolding rowIn added sum-of
-  in-down l = simp (le-leb g h l)
+  in-down l = simp (le-leb (s .g) (s .h) l)
 
-  in-even : h < g → c % 2 ≡ 0 → rowIn h g w c values work ≡ behind w values work
+  in-even : s .h < s .g → c % 2 ≡ 0 → rowIn s c values work ≡ behind (s .w) values work
   unfolding rowIn
-  in-even l e = simp (lt-leb g h l, eq-eqb (c % 2) 0 e)
+  in-even l e = simp (lt-leb (s .g) (s .h) l, eq-eqb (c % 2) 0 e)
 
-  in-odd : h < g → c % 2 ≡ 1 → rowIn h g w c values work ≡ written w values work
+  in-odd : s .h < s .g → c % 2 ≡ 1 → rowIn s c values work ≡ written (s .w) values work
   unfolding rowIn
-  in-odd l e = simp (lt-leb g h l, ne-eqb (c % 2) 0 (omega arith))
+  in-odd l e = simp (lt-leb (s .g) (s .h) l, ne-eqb (c % 2) 0 (omega arith))
 
-module _ (h g w c : ℕ) (values : ℕ → ℕ) (work : List ℕ) (long : w + w ≤ length work) where
+module _ (s : Scale) (c : ℕ) (values : ℕ → ℕ) (work : List ℕ) (long : s .w + s .w ≤ length work) where
   -- g ≤ h: added to the first half, and kept in the second
-  pub in-first : g ≤ h → (x : ℕ) → x < w → getD (rowIn h g w c values work) x 0 ≡ wrapAdd (getD work x 0) (values x)
+  pub in-first : s .g ≤ s .h → (x : ℕ) → x < s .w → getD (rowIn s c values work) x 0 ≡ wrapAdd (getD work x 0) (values x)
   unfolding sum-of
   in-first m x l =
-      rw (in-down h g w c values work m)
-      (written-at w (sum-of h g w c values work) (behind w values work) x l
-      ∙ rw (behind-first w values work long x l, behind-second w values work long x l))
+      rw (in-down s c values work m)
+      (written-at (s .w) (sum-of s c values work) (behind (s .w) values work) x l
+      ∙ rw (behind-first (s .w) values work long x l, behind-second (s .w) values work long x l))
 
-  pub in-second : g ≤ h → (x : ℕ) → x < w → getD (rowIn h g w c values work) (w + x) 0 ≡ values x
+  pub in-second : s .g ≤ s .h → (x : ℕ) → x < s .w → getD (rowIn s c values work) (s .w + x) 0 ≡ values x
   in-second m x l =
-      rw (in-down h g w c values work m)
-      (written-beyond w (sum-of h g w c values work) (behind w values work) x ∙ behind-second w values work long x l)
+      rw (in-down s c values work m)
+      (written-beyond (s .w) (sum-of s c values work) (behind (s .w) values work) x ∙ behind-second (s .w) values work long x l)
 
   -- g > h: in its own half, and the other stays
-  pub in-own : h < g → (x : ℕ) → x < w → getD (rowIn h g w c values work) (halfOf w c + x) 0 ≡ values x
+  pub in-own : s .h < s .g → (x : ℕ) → x < s .w → getD (rowIn s c values work) (halfOf (s .w) c + x) 0 ≡ values x
   in-own m x l = by (parity c)
     where
-      by : (c % 2 ≡ 0) ⊎ (c % 2 ≡ 1) → getD (rowIn h g w c values work) (halfOf w c + x) 0 ≡ values x
-      by (inl e) = rw (half-even w c e, in-even h g w c values work m e) (behind-second w values work long x l)
-      by (inr e) = rw (half-odd w c e, zero-add x, in-odd h g w c values work m e) (written-at w values work x l)
+      by : (c % 2 ≡ 0) ⊎ (c % 2 ≡ 1) → getD (rowIn s c values work) (halfOf (s .w) c + x) 0 ≡ values x
+      by (inl e) = rw (half-even (s .w) c e, in-even s c values work m e) (behind-second (s .w) values work long x l)
+      by (inr e) = rw (half-odd (s .w) c e, zero-add x, in-odd s c values work m e) (written-at (s .w) values work x l)
 
-  pub in-other : h < g → (x : ℕ) → x < w → getD (rowIn h g w c values work) (halfOf w (suc c) + x) 0 ≡ getD work (halfOf w (suc c) + x) 0
+  pub in-other : s .h < s .g → (x : ℕ) → x < s .w → getD (rowIn s c values work) (halfOf (s .w) (suc c) + x) 0 ≡ getD work (halfOf (s .w) (suc c) + x) 0
   in-other m x l = by (parity c)
     where
-      by : (c % 2 ≡ 0) ⊎ (c % 2 ≡ 1) → getD (rowIn h g w c values work) (halfOf w (suc c) + x) 0 ≡ getD work (halfOf w (suc c) + x) 0
-      by (inl e) = rw (half-odd w (suc c) (omega arith), zero-add x, in-even h g w c values work m e) (behind-first w values work long x l)
-      by (inr e) = rw (half-even w (suc c) (omega arith), in-odd h g w c values work m e) (written-beyond w values work x)
+      by : (c % 2 ≡ 0) ⊎ (c % 2 ≡ 1) → getD (rowIn s c values work) (halfOf (s .w) (suc c) + x) 0 ≡ getD work (halfOf (s .w) (suc c) + x) 0
+      by (inl e) = rw (half-odd (s .w) (suc c) (omega arith), zero-add x, in-even s c values work m e) (behind-first (s .w) values work long x l)
+      by (inr e) = rw (half-even (s .w) (suc c) (omega arith), in-odd s c values work m e) (written-beyond (s .w) values work x)
 
-  pub rowIn-length : length (rowIn h g w c values work) ≡ length work
-  rowIn-length = by (le-or-lt g h) (parity c)
+  pub rowIn-length : length (rowIn s c values work) ≡ length work
+  rowIn-length = by (le-or-lt (s .g) (s .h)) (parity c)
     where
-      by : (g ≤ h) ⊎ (h < g) → (c % 2 ≡ 0) ⊎ (c % 2 ≡ 1) → length (rowIn h g w c values work) ≡ length work
+      by : (s .g ≤ s .h) ⊎ (s .h < s .g) → (c % 2 ≡ 0) ⊎ (c % 2 ≡ 1) → length (rowIn s c values work) ≡ length work
       by (inl m) e =
-          let b = behind-length w values work long in
-          rw (in-down h g w c values work m) (written-length w (sum-of h g w c values work) (behind w values work) (omega arith) ∙ b)
-      by (inr m) (inl e) = rw (in-even h g w c values work m e) (behind-length w values work long)
-      by (inr m) (inr e) = rw (in-odd h g w c values work m e) (written-length w values work (omega arith))
+          let b = behind-length (s .w) values work long in
+          rw (in-down s c values work m) (written-length (s .w) (sum-of s c values work) (behind (s .w) values work) (omega arith) ∙ b)
+      by (inr m) (inl e) = rw (in-even s c values work m e) (behind-length (s .w) values work long)
+      by (inr m) (inr e) = rw (in-odd s c values work m e) (written-length (s .w) values work (omega arith))
 
   -- "the rest is untouched"
-  pub rowIn-rest : drop (w + w) (rowIn h g w c values work) ≡ drop (w + w) work
-  rowIn-rest = by (le-or-lt g h) (parity c)
+  pub rowIn-rest : drop (s .w + s .w) (rowIn s c values work) ≡ drop (s .w + s .w) work
+  rowIn-rest = by (le-or-lt (s .g) (s .h)) (parity c)
     where
-      by : (g ≤ h) ⊎ (h < g) → (c % 2 ≡ 0) ⊎ (c % 2 ≡ 1) → drop (w + w) (rowIn h g w c values work) ≡ drop (w + w) work
+      by : (s .g ≤ s .h) ⊎ (s .h < s .g) → (c % 2 ≡ 0) ⊎ (c % 2 ≡ 1) → drop (s .w + s .w) (rowIn s c values work) ≡ drop (s .w + s .w) work
       by (inl m) e =
-          rw (in-down h g w c values work m)
-          (written-rest w (sum-of h g w c values work) (behind w values work) w ∙ behind-rest w values work long)
-      by (inr m) (inl e) = rw (in-even h g w c values work m e) (behind-rest w values work long)
-      by (inr m) (inr e) = rw (in-odd h g w c values work m e) (written-rest w values work w)
+          rw (in-down s c values work m)
+          (written-rest (s .w) (sum-of s c values work) (behind (s .w) values work) (s .w) ∙ behind-rest (s .w) values work long)
+      by (inr m) (inl e) = rw (in-even s c values work m e) (behind-rest (s .w) values work long)
+      by (inr m) (inr e) = rw (in-odd s c values work m e) (written-rest (s .w) values work (s .w))
 
 -- ---- an output row goes out
-module _ (sp h g w u y : ℕ) (work : List ℕ) where
+module _ (s : Scale) (u y : ℕ) (work : List ℕ) where
   -- what f leaves in the first half at place x
   abbrev pub leftAt : ℕ → ℕ
-  leftAt x = leftDown (ratio sp h g) (share g (restDown h g u y) (getD work (w + x) 0))
+  leftAt x = leftDown (ratio (s .span) (s .h) (s .g)) (share (s .g) (restDown (s .h) (s .g) u y) (getD work (s .w + x) 0))
 
-  out-down : g ≤ h → rowLeft sp h g w u y work ≡ written w leftAt work
+  out-down : s .g ≤ s .h → rowLeft s u y work ≡ written (s .w) leftAt work
   unfolding rowLeft
-  out-down m = simp (le-leb g h m)
+  out-down m = simp (le-leb (s .g) (s .h) m)
 
-  pub out-up : h < g → rowLeft sp h g w u y work ≡ work
+  pub out-up : s .h < s .g → rowLeft s u y work ≡ work
   unfolding rowLeft
-  out-up m = simp (lt-leb g h m)
+  out-up m = simp (lt-leb (s .g) (s .h) m)
 
-  pub out-first : g ≤ h → (x : ℕ) → x < w → getD (rowLeft sp h g w u y work) x 0 ≡ leftAt x
-  out-first m x l = rw (out-down m) (written-at w leftAt work x l)
+  pub out-first : s .g ≤ s .h → (x : ℕ) → x < s .w → getD (rowLeft s u y work) x 0 ≡ leftAt x
+  out-first m x l = rw (out-down m) (written-at (s .w) leftAt work x l)
 
-  pub out-second : g ≤ h → (x : ℕ) → getD (rowLeft sp h g w u y work) (w + x) 0 ≡ getD work (w + x) 0
-  out-second m x = rw (out-down m) (written-beyond w leftAt work x)
+  pub out-second : s .g ≤ s .h → (x : ℕ) → getD (rowLeft s u y work) (s .w + x) 0 ≡ getD work (s .w + x) 0
+  out-second m x = rw (out-down m) (written-beyond (s .w) leftAt work x)
 
-  pub rowLeft-length : w ≤ length work → length (rowLeft sp h g w u y work) ≡ length work
-  rowLeft-length long = by (le-or-lt g h)
+  pub rowLeft-length : s .w ≤ length work → length (rowLeft s u y work) ≡ length work
+  rowLeft-length long = by (le-or-lt (s .g) (s .h))
     where
-      by : (g ≤ h) ⊎ (h < g) → length (rowLeft sp h g w u y work) ≡ length work
-      by (inl m) = rw (out-down m) (written-length w leftAt work long)
+      by : (s .g ≤ s .h) ⊎ (s .h < s .g) → length (rowLeft s u y work) ≡ length work
+      by (inl m) = rw (out-down m) (written-length (s .w) leftAt work long)
       by (inr m) = rw (out-up m) refl
 
   -- all but the first half stays, and so all beyond the two halves
-  pub rowLeft-rest : (n : ℕ) → drop (w + n) (rowLeft sp h g w u y work) ≡ drop (w + n) work
-  rowLeft-rest n = by (le-or-lt g h)
+  pub rowLeft-rest : (n : ℕ) → drop (s .w + n) (rowLeft s u y work) ≡ drop (s .w + n) work
+  rowLeft-rest n = by (le-or-lt (s .g) (s .h))
     where
-      by : (g ≤ h) ⊎ (h < g) → drop (w + n) (rowLeft sp h g w u y work) ≡ drop (w + n) work
-      by (inl m) = rw (out-down m) (written-rest w leftAt work n)
+      by : (s .g ≤ s .h) ⊎ (s .h < s .g) → drop (s .w + n) (rowLeft s u y work) ≡ drop (s .w + n) work
+      by (inl m) = rw (out-down m) (written-rest (s .w) leftAt work n)
       by (inr m) = rw (out-up m) refl
