@@ -15,7 +15,7 @@ use Rattle.rows_schedule.proofs.Crop.{rows-le}
 use Rattle.job.specs.declared.Plan.{Plan}
 use Rattle.job.specs.declared.Job.{Job}
 use Rattle.job.specs.Record.{lanesOf, R, Rules}
-use Rattle.job.specs.Calls.{lentRows, count, rowAccepted, fed, offerNumber}
+use Rattle.job.specs.Calls.{lentRows, mostRows, count, rowAccepted, fed, offerNumber}
 use Rattle.job.proofs.Counting.{counted-is}
 use Rattle.job.proofs.Views.{OfferWent, offer-went}
 
@@ -23,7 +23,7 @@ fed-none : (p : Plan) (rows work : List ℕ) (k : ℕ) → work ≡ fed p rows k
 unfolding fed
 fed-none p rows work k = refl
 
-fed-more : (p : Plan) (rows work : List ℕ) (k i : ℕ) → rowAccepted p (pictureRow pixelLanes rows (p .source .width) i) (k + i) (fed p rows k i work) ≡ fed p rows k (i + 1) work
+fed-more : (p : Plan) (rows work : List ℕ) (k i : ℕ) → rowAccepted p (pictureRow (lanesOf p) rows (p .source .width) i) (k + i) (fed p rows k i work) ≡ fed p rows k (i + 1) work
 unfolding fed
 fed-more p rows work k i = rw (add-one i) refl
 
@@ -33,7 +33,7 @@ pub record Accepting (j : Job) (rows before : List ℕ) (most : ℕ) (work : Lis
   pub fed-is : work ≡ fed (j .plan) rows (j .accepted) i before
   pub long : length work ≡ length before
 
-module _ (j : Job) (rows before : List ℕ) (most : ℕ) (goes : offerNumber j (length rows) (length before) ≡ 0) (m : most ≡ min (lentRows (j .plan) (length rows)) (j .plan .source .height - j .accepted)) where
+module _ (j : Job) (rows before : List ℕ) (most : ℕ) (goes : offerNumber j (length rows) (length before) ≡ 0) (m : most ≡ mostRows j (length rows)) where
   abbrev o : OfferWent j rows before
   o = offer-went j rows before goes
 
@@ -66,7 +66,7 @@ module _ (j : Job) (rows before : List ℕ) (most : ℕ) (goes : offerNumber j (
         let l : suc i ≤ lentRows (j .plan) (length rows) = omega (arith, a .left) in
         omega (arith, lent, mul-le-mul-left stride l)
 
-    pub row-long : length (pictureRow pixelLanes rows (j .plan .source .width) i) ≡ stride
+    pub row-long : length (pictureRow (lanesOf (j .plan)) rows (j .plan .source .width) i) ≡ stride
     unfolding pictureRow
     row-long = length-take-le stride (drop (stride * i) rows) (simp length-drop (omega (arith, in-lent)))
 
@@ -86,15 +86,15 @@ module _ (j : Job) (rows before : List ℕ) (most : ℕ) (goes : offerNumber j (
     -- the last that there may be
     pub accepting-full : i + 1 ≡ most → i + 1 ≡ count j (length rows)
     accepting-full e =
-        sym (counted-is (R (j .plan)) (j .accepted) (j .taken) (min (lentRows (j .plan) (length rows)) (j .plan .source .height - j .accepted)) (i + 1) (omega arith) still (inl (omega arith)))
+        sym (counted-is (R (j .plan)) (j .accepted) (j .taken) (o .none-ready) (mostRows j (length rows)) (i + 1) (omega arith) still (inl (omega arith)))
 
     -- the first that makes an output row ready
     pub accepting-ready : j .taken < R (j .plan) (j .accepted + (i + 1)) → i + 1 ≡ count j (length rows)
     accepting-ready l =
-        sym (counted-is (R (j .plan)) (j .accepted) (j .taken) (min (lentRows (j .plan) (length rows)) (j .plan .source .height - j .accepted)) (i + 1) (omega (arith, a .left)) still (inr l))
+        sym (counted-is (R (j .plan)) (j .accepted) (j .taken) (o .none-ready) (mostRows j (length rows)) (i + 1) (omega (arith, a .left)) still (inr l))
 
     -- after a row has come in
-    module _ (next row : List ℕ) (row-is : row ≡ pictureRow pixelLanes rows (j .plan .source .width) i) (e : next ≡ rowAccepted (j .plan) row (j .accepted + i) work) where
+    module _ (next row : List ℕ) (row-is : row ≡ pictureRow (lanesOf (j .plan)) rows (j .plan .source .width) i) (e : next ≡ rowAccepted (j .plan) row (j .accepted + i) work) where
       next-fed : next ≡ fed (j .plan) rows (j .accepted) (i + 1) before
       next-fed = e ∙ rw (row-is, a .fed-is) (fed-more (j .plan) rows before (j .accepted) i)
 

@@ -15,7 +15,7 @@ use Rattle.pixels.specs.Refusals.{bufferIf}
 use Rattle.pixels.specs.Sizes.{pixelLanes, rowBytes, halfValues, workValues, Fits}
 use Rattle.pixels.specs.Lanes.{matted}
 use Rattle.pixels_crop.specs.Crop.{windowOf}
-use Rattle.pixels.proofs.Causes.{test}
+use Rattle.pixels.proofs.Truths.{test}
 use Rattle.pixels.proofs.Fitting.{side-good}
 use Rattle.pixels_crop.proofs.Windows.{window-length}
 use Rattle.rows.specs.Lanes.{rowValue}

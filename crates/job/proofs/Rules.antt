@@ -10,7 +10,7 @@ use Rattle.pixels.specs.declared.Refusal.{Refusal}
 use Rattle.pixels.specs.Refusals.{number}
 use Rattle.pixels.specs.Sizes.{sizesNumber, Fits}
 use Rattle.pixels.proofs.Fitting.{fits-of, fits-good}
-use Rattle.pixels.proofs.Causes.{both-true}
+use Rattle.pixels.proofs.Truths.{both-true}
 use Rattle.pixels.proofs.Numbers.{number-pos}
 use Rattle.job.specs.declared.Job.{Job}
 use Rattle.job.specs.Record.{R, lawful, readyOf, Rules}

@@ -7,8 +7,6 @@ use lib.Dec.{eqb, leb, ltb}
 use lib.ListN.{length, drop, replicate}
 use Rattle.arithmetic.specs.Table.{tabulate}
 use Rattle.arithmetic.specs.Weight.{span}
-use Rattle.pixels.specs.declared.Dimensions.{Dimensions}
-use Rattle.pixels.specs.declared.Rect.{Rect}
 use Rattle.pixels.specs.declared.Refusal.the-variants.{PixelBufferMismatch, OutputLength, WorkLength, InvalidRecord, RowReady, AllAccepted, NoneReady}
 use Rattle.pixels.specs.Refusals.{Cause, cause, first, otherLength, fewWork}
 use Rattle.pixels.specs.Sizes.{rowBytes, halfValues, workValues, sizesCauses}
@@ -17,10 +15,10 @@ use Rattle.pixels_alpha.specs.Alpha.{hasAlpha}
 use Rattle.pixels_crop.specs.Crop.{windowOf, pictureRow}
 use Rattle.rows_schedule.specs.Schedule.{used}
 use Rattle.rows.specs.Lanes.{rowValue}
-use Rattle.rows.specs.WorkRows.{rowIn, byteOut, rowLeft}
+use Rattle.rows.specs.WorkRows.{Scale, rowIn, byteOut, rowLeft}
 use Rattle.job.specs.declared.Plan.{Plan}
 use Rattle.job.specs.declared.Job.{Job}
-use Rattle.job.specs.Record.{lanesOf, R, fresh, lawful}
+use Rattle.job.specs.Record.{lanesOf, R, lawful}
 
 -- "fewer than 8 × target width work values", w being lent
 abbrev pub shortWork : Plan → ℕ → Cause
@@ -32,8 +30,11 @@ badRecord j = cause (not (lawful j)) InvalidRecord
 
 -- ---- start: 1, 2, 5
 
+abbrev pub startCauses : Plan → ℕ → List Cause
+startCauses p w = sizesCauses (p .source) (p .crop) (p .target) ++ (shortWork p w ∷ [])
+
 unfoldable pub startNumber : Plan → ℕ → ℕ
-startNumber p w = first (sizesCauses (p .source) (p .crop) (p .target) ++ (shortWork p w ∷ []))
+startNumber p w = first (startCauses p w)
 
 -- "start clears both, and the rest is untouched"
 abbrev pub cleared : Plan → List ℕ → List ℕ
@@ -43,6 +44,15 @@ unfoldable pub startWork : Plan → List ℕ → List ℕ
 startWork p work = cond (eqb (startNumber p (length work)) 0) (cleared p work) work
 
 -- ---- a row comes in
+
+-- what the job's rows are scaled by
+abbrev pub scaleBy : Plan → Scale
+scaleBy p = record {
+  span = span (p .crop .width) (p .target .width);
+  h = p .crop .height;
+  g = p .target .height;
+  w = halfValues (lanesOf p) (p .target .width);
+}
 
 -- source row s is inside the crop's height
 abbrev pub inCrop : Plan → ℕ → Bool
@@ -57,7 +67,7 @@ valuesOf p row =
 unfoldable pub rowAccepted : Plan → List ℕ → ℕ → List ℕ → List ℕ
 rowAccepted p row s work =
     cond (inCrop p s)
-    (rowIn (p .crop .height) (p .target .height) (halfValues (lanesOf p) (p .target .width)) (s - p .crop .y) (valuesOf p row) work)
+    (rowIn (scaleBy p) (s - p .crop .y) (valuesOf p row) work)
     work
 
 -- the first c of the rows lent, the first of them being source row k
@@ -72,27 +82,37 @@ abbrev pub badRows : Plan → ℕ → Bool
 badRows p n = eqb n 0 || not (eqb (n % rowBytes (lanesOf p) (p .source .width)) 0)
 
 -- of n bytes lent and w work values
-unfoldable pub offerNumber : Job → ℕ → ℕ → ℕ
-offerNumber j n w =
-    first
-    (badRecord j
+abbrev pub offerCauses : Job → ℕ → ℕ → List Cause
+offerCauses j n w =
+    badRecord j
     ∷ cause (badRows (j .plan) n) PixelBufferMismatch
     ∷ shortWork (j .plan) w
     ∷ cause (ltb (j .taken) (R (j .plan) (j .accepted))) RowReady
     ∷ cause (leb (j .plan .source .height) (j .accepted)) AllAccepted
-    ∷ [])
+    ∷ []
 
--- "It stops at the first row that makes an output row ready, at the last offered or at the source's last": one row more, as long as none is ready.
--- Of the rows' function R, the rows accepted k, the rows taken t and the most there may be.
+unfoldable pub offerNumber : Job → ℕ → ℕ → ℕ
+offerNumber j n w = first (offerCauses j n w)
+
+-- the least number from c up, among n of them, for which the test is true; the one after them where there is none
+unfoldable pub least : (ℕ → Bool) → ℕ → ℕ → ℕ
+least test c zero = c
+least test c (suc n) = cond (test c) c (least test (suc c) n)
+
+-- "It stops at the first row that makes an output row ready, at the last offered or at the source's last": the smaller of the most rows there may be and
+-- "the least c from 1 up for which R(accepted before it + c) is above taken". Of the rows' function R, the rows accepted k and the rows taken t.
 unfoldable pub counted : (ℕ → ℕ) → ℕ → ℕ → ℕ → ℕ
-counted r k t zero = 0
-counted r k t (suc n) = cond (ltb t (r (k + counted r k t n))) (counted r k t n) (suc (counted r k t n))
+counted r k t most = min most (least (λ c. ltb t (r (k + c))) 1 most)
 
 abbrev pub lentRows : Plan → ℕ → ℕ
 lentRows p n = n / rowBytes (lanesOf p) (p .source .width)
 
+-- the rows lent or those that the source has left, whichever are fewer
+abbrev pub mostRows : Job → ℕ → ℕ
+mostRows j n = min (lentRows (j .plan) n) (j .plan .source .height - j .accepted)
+
 abbrev pub count : Job → ℕ → ℕ
-count j n = counted (R (j .plan)) (j .accepted) (j .taken) (min (lentRows (j .plan) n) (j .plan .source .height - j .accepted))
+count j n = counted (R (j .plan)) (j .accepted) (j .taken) (mostRows j n)
 
 -- the record with c rows more
 abbrev pub moreAccepted : Job → ℕ → Job
@@ -113,14 +133,16 @@ offerWork j rows work =
 -- ---- take: 6, 4, 5, 9
 
 -- of n bytes of output and w work values
-unfoldable pub takeNumber : Job → ℕ → ℕ → ℕ
-takeNumber j n w =
-    first
-    (badRecord j
+abbrev pub takeCauses : Job → ℕ → ℕ → List Cause
+takeCauses j n w =
+    badRecord j
     ∷ otherLength n (rowBytes (lanesOf (j .plan)) (j .plan .target .width)) OutputLength
     ∷ shortWork (j .plan) w
     ∷ cause (leb (R (j .plan) (j .accepted)) (j .taken)) NoneReady
-    ∷ [])
+    ∷ []
+
+unfoldable pub takeNumber : Job → ℕ → ℕ → ℕ
+takeNumber j n w = first (takeCauses j n w)
 
 -- u, the crop rows used
 abbrev pub usedBy : Job → ℕ
@@ -130,16 +152,11 @@ usedBy j = used (j .plan .crop .y) (j .plan .crop .height) (j .accepted)
 unfoldable pub rowTaken : Job → List ℕ → List ℕ
 rowTaken j work =
     let p : Plan = j .plan in
-    tabulate
-    (restoredPlace (p .layout)
-    (byteOut (span (p .crop .width) (p .target .width)) (p .crop .height) (p .target .height) (halfValues (lanesOf p) (p .target .width)) (usedBy j) (j .taken) work))
-    (rowBytes (lanesOf p) (p .target .width))
+    tabulate (restoredPlace (p .layout) (byteOut (scaleBy p) (usedBy j) (j .taken) work)) (rowBytes (lanesOf p) (p .target .width))
 
 -- the work rows afterwards
 unfoldable pub workTaken : Job → List ℕ → List ℕ
-workTaken j work =
-    let p : Plan = j .plan in
-    rowLeft (span (p .crop .width) (p .target .width)) (p .crop .height) (p .target .height) (halfValues (lanesOf p) (p .target .width)) (usedBy j) (j .taken) work
+workTaken j work = rowLeft (scaleBy (j .plan)) (usedBy j) (j .taken) work
 
 -- the record with one row more taken, row being its bytes
 abbrev pub moreTaken : Job → List ℕ → Job

@@ -13,7 +13,7 @@ ghost use lib.Dec.{eqb};
 ghost use Rattle.pixels.specs.Refusals.{checkedNumber, sizedNumber, sizedSize, sizeIf};
 ghost use Rattle.pixels.specs.Sizes.{maxSide, pixelLanes, pictureBytes, badSide, badSize, sizeOf, rectOf, sizeNumber, sizesNumber, derivedSide, scaledNumber, scaledSize};
 
-// A side is 0 or above the limit. Rules out: a side of 0 passed; a side of 16,384 refused.
+// A side is 0 or above the limit. Rules out: a side of twice the limit passed; a side of 16,384 refused.
 pub fn bad_side(side: u64) -> bool
     ensures { λ r. ⌜ r ≡ badSide side ⌝ }
 {

@@ -72,13 +72,13 @@ fn check_crop(source: Dimensions, rect: Rect, n: usize, m: usize) -> Checked
         }
         Checked::Fit => {}
     }
-    if wrong_length(n, source) {
-        return Checked::Refused(Refusal::PixelBufferMismatch);
-    }
     let size = Dimensions {
         width: rect.width,
         height: rect.height,
     };
+    if wrong_length(n, source) {
+        return Checked::Refused(Refusal::PixelBufferMismatch);
+    }
     if wrong_length(m, size) {
         return Checked::Refused(Refusal::OutputLength);
     }
