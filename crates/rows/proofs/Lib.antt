@@ -1,3 +1,4 @@
 pub mod Columns
 pub mod Lanes
-pub mod Incoming
+pub mod Layouts
+pub mod Importing

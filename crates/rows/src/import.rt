@@ -1,28 +1,25 @@
 // A row comes in (document 01; the Rust: Rescaler::import_row of geometry.rs, libwebp's WebPRescalerImportRowShrink_C and
 // WebPRescalerImportRowExpand_C): matted as its bytes are read, the four lanes at once. Work values wrap.
-use crate::Done;
 use arithmetic::frac;
 use arithmetic::matte;
 use arithmetic::mult_fix;
 use arithmetic::wrapping_mul;
-use pixels::MAX_DIMENSION;
+use pixels::Checked;
+use pixels::PIXEL_LANES;
 use pixels::PixelLayout;
 use pixels::Places;
 use pixels::Refusal;
+use pixels::bad_side;
 use std::num::wrapping_add_u32;
 use std::num::wrapping_sub_u32;
 ghost use mathlib.Core.Path.{_≡_};
 ghost use Prim.Native.Nat.{ℕ, _+_, _*_, _/_, _≤_, _<_};
-ghost use lib.ListN.{length, set};
+ghost use lib.ListN.{length};
 ghost use Rattle.arithmetic.specs.Word.{wrapAdd, wrapMul};
-ghost use Rattle.pixels.specs.Sizes.{maxSide, pixelLanes, halfValues, badSide};
-ghost use Rattle.pixels.specs.Refusals.{bufferIf};
-ghost use Rattle.pixels.specs.Lanes.{matted};
-ghost use Rattle.rows.specs.Done.{doneNumber};
-ghost use Rattle.rows.specs.Incoming.{importNumber};
-ghost use Rattle.rows.specs.WorkRows.{written};
-ghost use Rattle.rows.specs.Lanes.{rowValue};
-ghost use Rattle.rows.specs.Import.{at, Four, laneBytes, mattedAt, PixelAsks, Within, InLanes, GatherAsks, Gathers, Finished, ColumnAsks, Columns, RowAsks, Second, AdvanceAsks, Advances};
+ghost use Rattle.pixels.specs.Sizes.{maxSide, pixelLanes};
+ghost use Rattle.pixels.specs.Refusals.{checkedNumber};
+ghost use Rattle.rows.specs.Import.{importNumber, importHalf};
+ghost use Rattle.rows.specs.Inner.Import.{at, Four, stored, laneBytes, mattedAt, PixelAsks, Within, InLanes, GatherAsks, Gathers, Finished, ColumnAsks, Columns, writtenRow, RowAsks, Second, AdvanceAsks, Advances};
 
 // A number for each lane, or for each byte of a pixel.
 struct Quad {
@@ -61,7 +58,7 @@ fn read_matted(row: &[u8], x: usize, pa: usize) -> Quad
     requires { ⌜ pa < pixelLanes ⌝ }
     ensures { λ r. ⌜ Four (λ k. at r k ≡ mattedAt (now (row .entry)) pa k x) ⌝ }
 {
-    let i = 4 * x;
+    let i = PIXEL_LANES * x;
     let alpha = row[i + pa];
     Quad {
         a: matte(row[i], alpha),
@@ -77,7 +74,7 @@ fn read_lanes(row: &[u8], x: usize, p: Places) -> Quad
     requires { ⌜ Within p ⌝ }
     ensures { λ r. ⌜ Four (λ k. at r k ≡ laneBytes p (now (row .entry)) k x) ⌝ }
 {
-    let i = 4 * x;
+    let i = PIXEL_LANES * x;
     let b = i + p.b;
     let g = i + p.g;
     let r = i + p.r;
@@ -132,7 +129,7 @@ fn gather(row: &[u8], m: usize, need: usize, from: usize, pa: usize) -> Gathered
         got += m;
         last = read_matted(row, x, pa);
         sum = add4(sum, last);
-        base = row[4 * x + pa] as u32;
+        base = row[PIXEL_LANES * x + pa] as u32;
         alpha = wrapping_add_u32(alpha, base);
         x += 1;
     }
@@ -216,9 +213,9 @@ fn make_column(
 // Stores the four values of column j.
 fn put4(half: &mut [u32], j: usize, v: Quad)
     requires { ⌜ (pixelLanes * j + pixelLanes ≤ length (now half)) × (j < maxSide) ⌝ }
-    ensures { λ _. ⌜ now (half .exit) ≡ set (set (set (set (now (half .entry)) (pixelLanes * j) (v .a)) (pixelLanes * j + 1) (v .b)) (pixelLanes * j + 2) (v .c)) (pixelLanes * j + 3) (v .d) ⌝ }
+    ensures { λ _. ⌜ now (half .exit) ≡ stored (now (half .entry)) j v ⌝ }
 {
-    let i = 4 * j;
+    let i = PIXEL_LANES * j;
     half[i] = v.a;
     half[i + 1] = v.b;
     half[i + 2] = v.c;
@@ -229,7 +226,7 @@ fn put4(half: &mut [u32], j: usize, v: Quad)
 fn shrink_row(row: &[u8], n: usize, m: usize, p: Places, half: &mut [u32])
     requires { ⌜ RowAsks (now row) (now half) n m p ⌝ }
     requires { ⌜ m ≤ n ⌝ }
-    ensures { λ _. ⌜ now (half .exit) ≡ written (halfValues pixelLanes m) (rowValue pixelLanes (laneBytes p (now (row .entry))) n m) (now (half .entry)) ⌝ }
+    ensures { λ _. ⌜ now (half .exit) ≡ writtenRow p n m (now (row .entry)) (now (half .entry)) ⌝ }
 {
     let scale = frac(1, m as u32);
     let mut x = 0usize;
@@ -312,7 +309,7 @@ fn advance(row: &[u8], span: u32, step: u32, s: Stand, p: Places) -> Stand
 fn grow_row(row: &[u8], n: usize, m: usize, p: Places, half: &mut [u32])
     requires { ⌜ RowAsks (now row) (now half) n m p ⌝ }
     requires { ⌜ n < m ⌝ }
-    ensures { λ _. ⌜ now (half .exit) ≡ written (halfValues pixelLanes m) (rowValue pixelLanes (laneBytes p (now (row .entry))) n m) (now (half .entry)) ⌝ }
+    ensures { λ _. ⌜ now (half .exit) ≡ writtenRow p n m (now (row .entry)) (now (half .entry)) ⌝ }
 {
     let span = (m - 1) as u32;
     let step = (n - 1) as u32;
@@ -339,7 +336,7 @@ fn grow_row(row: &[u8], n: usize, m: usize, p: Places, half: &mut [u32])
 // Every column, either way.
 fn write_row(row: &[u8], n: usize, m: usize, p: Places, half: &mut [u32])
     requires { ⌜ RowAsks (now row) (now half) n m p ⌝ }
-    ensures { λ _. ⌜ now (half .exit) ≡ written (halfValues pixelLanes m) (rowValue pixelLanes (laneBytes p (now (row .entry))) n m) (now (half .entry)) ⌝ }
+    ensures { λ _. ⌜ now (half .exit) ≡ writtenRow p n m (now (row .entry)) (now (half .entry)) ⌝ }
 {
     if m <= n {
         shrink_row(row, n, m, p, half);
@@ -348,13 +345,23 @@ fn write_row(row: &[u8], n: usize, m: usize, p: Places, half: &mut [u32])
     grow_row(row, n, m, p, half);
 }
 
-fn bad_width(width: u32) -> bool
-    ensures { λ r. ⌜ r ≡ badSide width ⌝ }
+// The tests, in the order of document 01's table.
+fn check_import(crop_width: u32, target_width: u32, bytes: usize, room: usize) -> Checked
+    ensures { λ r. ⌜ checkedNumber r ≡ importNumber «crop_width» «target_width» bytes room ⌝ }
 {
-    if width == 0 {
-        return true;
+    if bad_side(crop_width as u64) {
+        return Checked::Refused(Refusal::InvalidDimensions);
     }
-    width > MAX_DIMENSION
+    if bad_side(target_width as u64) {
+        return Checked::Refused(Refusal::InvalidDimensions);
+    }
+    if bytes != PIXEL_LANES * crop_width as usize {
+        return Checked::Refused(Refusal::PixelBufferMismatch);
+    }
+    if room < PIXEL_LANES * target_width as usize {
+        return Checked::Refused(Refusal::WorkLength);
+    }
+    Checked::Fit
 }
 
 // One row of the crop, matted as it is read, into a half. A row as wide as the target goes the same way: matting changes it.
@@ -365,24 +372,16 @@ pub fn import_row(
     target_width: u32,
     row: &[u8],
     half: &mut [u32],
-) -> Done
-    ensures number { λ r. ⌜ doneNumber r ≡ importNumber «crop_width» «target_width» (length (now (row .entry))) (length (now (half .entry))) ⌝ }
-    ensures half { λ _. ⌜ now (half .exit) ≡ bufferIf (importNumber «crop_width» «target_width» (length (now (row .entry))) (length (now (half .entry)))) (written (halfValues pixelLanes «target_width») (rowValue pixelLanes (matted layout (now (row .entry))) «crop_width» «target_width») (now (half .entry))) (now (half .entry)) ⌝ }
+) -> Checked
+    ensures number { λ r. ⌜ checkedNumber r ≡ importNumber «crop_width» «target_width» (length (now (row .entry))) (length (now (half .entry))) ⌝ }
+    ensures half { λ _. ⌜ now (half .exit) ≡ importHalf layout «crop_width» «target_width» (now (row .entry)) (now (half .entry)) ⌝ }
 {
-    if bad_width(crop_width) {
-        return Done::Refused(Refusal::InvalidDimensions);
+    let checked = check_import(crop_width, target_width, row.len(), half.len());
+    match checked {
+        Checked::Refused(why) => Checked::Refused(why),
+        Checked::Fit => {
+            write_row(row, crop_width as usize, target_width as usize, layout.places(), half);
+            Checked::Fit
+        }
     }
-    if bad_width(target_width) {
-        return Done::Refused(Refusal::InvalidDimensions);
-    }
-    let n = crop_width as usize;
-    let m = target_width as usize;
-    if row.len() != 4 * n {
-        return Done::Refused(Refusal::PixelBufferMismatch);
-    }
-    if half.len() < 4 * m {
-        return Done::Refused(Refusal::WorkLength);
-    }
-    write_row(row, n, m, layout.places(), half);
-    Done::Done
 }

@@ -6,7 +6,7 @@ use native.Mathlib.Omega.{arith}
 use native.Mathlib.Numerals.{add-one}
 use Rattle.pixels.specs.declared.Places.{Places}
 use Rattle.rows.specs.declared.import.Quad.{Quad}
-use Rattle.rows.specs.Import.{at, Four, laneBytes, PixelAsks, AdvanceAsks, Advances}
+use Rattle.rows.specs.Inner.Import.{at, Four, laneBytes, PixelAsks, AdvanceAsks, Advances}
 use Rattle.rows.proofs.Lanes.{each, lane-byte}
 use borrow.Author.Needs.{needs}
 use Rattle.rows.proofs.import.advance.Statement.{statement}

@@ -4,7 +4,7 @@ use mathlib.Core.Path.{_≡_, refl, ap, _∙_}
 use mathlib.Core.List.{List}
 use native.Mathlib.Omega.{arith}
 use native.Mathlib.Nat.{mul-le-mul-right, lt-of-mul-lt-mul-right}
-use lib.ListN.{length, set}
+use lib.ListN.{length}
 use Rattle.arithmetic.specs.Word.{wrapAdd, wrapMul}
 use Rattle.arithmetic.specs.Table.{tabulate}
 use Rattle.pixels.specs.Sizes.{pixelLanes}
@@ -13,7 +13,7 @@ use Rattle.rows.specs.declared.import.Quad.{Quad}
 use Rattle.rows.specs.Column.{value}
 use Rattle.rows.specs.WorkRows.{written}
 use Rattle.rows.specs.Lanes.{rowValue}
-use Rattle.rows.specs.Import.{at, Four, laneBytes, PixelAsks, Second, Stands, AdvanceAsks, Advances, RowAsks}
+use Rattle.rows.specs.Inner.Import.{at, Four, stored, laneBytes, PixelAsks, Second, Stands, AdvanceAsks, Advances, writtenRow, RowAsks}
 use Rattle.rows.proofs.Columns.{lane-grown}
 use Rattle.rows.proofs.Lanes.{each, lane-byte, row-values, put-four, written-length}
 use Rattle.rows.proofs.import.grow_row.Statement.{statement}
@@ -82,7 +82,7 @@ module _ {s half₀ half : List ℕ} {n m : ℕ} {p : Places} {left right : Quad
     rest = w .small
 
     turn : (v : Quad) → j < m → Four (λ k. at v k ≡ wrapAdd (wrapMul (at left' k) acc') (wrapMul (at right' k) ((m - 1) - acc')))
-        → (half' : List ℕ) → half' ≡ set (set (set (set half (pixelLanes * j) (v .a)) (pixelLanes * j + 1) (v .b)) (pixelLanes * j + 2) (v .c)) (pixelLanes * j + 3) (v .d)
+        → (half' : List ℕ) → half' ≡ stored half j v
         → Inv s n m p half₀ half' left' right' x' acc' (j + 1)
     turn v t e half' put =
         let whole : length s / pixelLanes ≡ n = omega (arith, a .whole) in
@@ -107,7 +107,7 @@ module _ {s half₀ half : List ℕ} {n m : ℕ} {p : Places} {left right : Quad
           half-is = put ∙ put-four (rowValue pixelLanes q n m) j half₀ (omega (arith, a .room)) half v (i .half-is) (row-values q n m j v values);
         }
 
-  done : m ≤ j → half ≡ written (pixelLanes * m) (rowValue pixelLanes (laneBytes p s) n m) half₀
+  done : m ≤ j → half ≡ writtenRow p n m s half₀
   done t = i .half-is ∙ ap (λ (k : ℕ). written (pixelLanes * k) (rowValue pixelLanes (laneBytes p s) n m) half₀) (let e : j ≡ m = omega (arith, i .so-far) in e)
 
 abbrev Inv-loop : tie.InvT-loop

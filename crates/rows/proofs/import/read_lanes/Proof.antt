@@ -1,6 +1,6 @@
 -- `read_lanes`: what is read is laneBytes by definition. Assumes nothing.
 use mathlib.Core.Path.{refl}
-use Rattle.rows.specs.Import.{byteAt, mattedAt, laneBytes}
+use Rattle.rows.specs.Inner.Import.{byteAt, mattedAt, laneBytes}
 use Prim.Native.Nat.{_+_, _*_}
 use native.Mathlib.Omega.{arith}
 use borrow.Author.Needs.{needs}
