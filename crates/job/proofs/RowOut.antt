@@ -8,7 +8,6 @@ use native.Mathlib.Omega.{arith}
 use lib.ListN.{length, getD}
 use borrow.Author.Tests.{eq-eqb}
 use Rattle.arithmetic.specs.Table.{tabulate}
-use Rattle.arithmetic.specs.Weight.{span}
 use Rattle.arithmetic.proofs.Tables.{length-tabulate, getD-tabulate, tabulate-cong}
 use Rattle.pixels.specs.declared.Dimensions.{Dimensions}
 use Rattle.pixels.specs.Sizes.{rowBytes, halfValues, sizeOf}
@@ -24,7 +23,7 @@ use Rattle.rows_scaling.proofs.Scalings.{scale-passes}
 use Rattle.rows_restoring.proofs.Restorings.{restore-passes}
 use Rattle.job.specs.declared.Plan.{Plan}
 use Rattle.job.specs.declared.Job.{Job}
-use Rattle.job.specs.Calls.{usedBy, rowTaken, workTaken, takeNumber}
+use Rattle.job.specs.Calls.{scaleBy, usedBy, rowTaken, workTaken, takeNumber}
 use Rattle.job.proofs.Restoring.{restored-cong}
 use Rattle.job.proofs.Views.{TakeWent, take-went}
 use Rattle.job.specs.Record.{lanesOf}
@@ -35,7 +34,7 @@ cropSize p = sizeOf (p .crop .width) (p .crop .height)
 -- the lanes of the row that goes out
 abbrev outOf : Job → List ℕ → ℕ → ℕ
 outOf j work =
-    byteOut (span (j .plan .crop .width) (j .plan .target .width)) (j .plan .crop .height) (j .plan .target .height) (halfValues (lanesOf (j .plan)) (j .plan .target .width)) (usedBy j) (j .taken) work
+    byteOut (scaleBy (j .plan)) (usedBy j) (j .taken) work
 
 module _ (j : Job) (out work : List ℕ) (goes : takeNumber j (length out) (length work) ≡ 0) where
   abbrev w : TakeWent j out work

@@ -22,10 +22,11 @@ ghost use Prim.Native.Nat.{_-_, _≤_};
 ghost use lib.Dec.{leb, ltb};
 ghost use lib.ListN.{length, drop, replicate};
 ghost use Rattle.pixels.specs.Refusals.{checkedNumber, flaggedFlag};
-ghost use Rattle.pixels.specs.Sizes.{rowBytes, halfValues, workValues, Fits};
+ghost use Rattle.pixels.specs.Sizes.{rowBytes, halfValues, workValues};
 ghost use Rattle.rows.specs.WorkRows.{halfOf};
 ghost use Rattle.job.specs.Answers.{startedNumber, startedJob, offeredNumber, offeredRows, offeredJob, takenNumber, takenJob};
 ghost use Rattle.job.specs.Record.{lanesOf, R, planOf, fresh, lawful, readyOf, Rules};
+ghost use Rattle.job.specs.Inner.{RowAsks};
 ghost use Rattle.job.specs.Calls.{startNumber, startWork, mostRows, rowAccepted, fed, count, offerNumber, offerRows, offerJob, offerWork, takeNumber, moreTaken, rowTaken, workTaken, takeJob, takeOut, takeWork};
 
 // What does not change in a job.
@@ -78,7 +79,7 @@ fn short_work(p: Plan, n: usize) -> bool
     n < 2 * row_bytes(p, p.target.width)
 }
 
-// R(k). The Rust: Rescaler::has_pending_output asks the same of its accumulator.
+// R(k). A row is ready while it is above the rows taken: the Rust's Rescaler::has_pending_output, there by an accumulator.
 fn made(p: Plan, accepted: u32) -> u64
     ensures { λ r. ⌜ r ≡ R p accepted ⌝ }
 {
@@ -185,9 +186,9 @@ fn half_for(p: Plan, c: u32) -> usize
     0
 }
 
-// Source row s. The Rust: Rescaler::import. Its crop window is a part of the row as lent; the layer below refuses none of these calls.
+// Source row s. The Rust: a turn of Rescaler::import. Its crop window is a part of the row as lent; the layer below refuses none of these calls.
 fn row_in(p: Plan, row: &[u8], s: u32, work: &mut [u32])
-    requires { ⌜ Fits (p .source) (p .crop) (p .target) × (length (now row) ≡ rowBytes (lanesOf p) (p .source .width)) × (workValues (lanesOf p) (p .target .width) ≤ length (now work)) ⌝ }
+    requires { ⌜ RowAsks p (now row) (now work) ⌝ }
     ensures { λ _. ⌜ now (work .exit) ≡ rowAccepted p (now (row .entry)) s (now (work .entry)) ⌝ }
 {
     if s < p.crop.y {
@@ -207,7 +208,7 @@ fn row_in(p: Plan, row: &[u8], s: u32, work: &mut [u32])
     add_halves(p.target.width, work);
 }
 
-// The rows of an offer that passed its tests, one after another: "stops at the first row that makes an output row ready, at the last offered or at
+// The rows of an offer that passed its tests, one after another (the Rust: Rescaler::import): "stops at the first row that makes an output row ready, at the last offered or at
 // the source's last".
 fn accept(j: Job, rows: &[u8], work: &mut [u32]) -> u32
     requires { ⌜ offerNumber j (length (now rows)) (length (now work)) ≡ 0 ⌝ }
@@ -246,7 +247,7 @@ fn flag_after(flag: bool, restored: Flagged) -> bool
     }
 }
 
-// The row of a take that passed its tests; returns the record's next flag. The layer below refuses neither call.
+// The row of a take that passed its tests; returns the record's next flag. The Rust: Rescaler::export and the end of resize. The layer below refuses neither call.
 fn row_out(j: Job, out: &mut [u8], work: &mut [u32]) -> bool
     requires { ⌜ takeNumber j (length (now out)) (length (now work)) ≡ 0 ⌝ }
     ensures flag { λ r. ⌜ r ≡ moreTaken j (rowTaken j (now (work .entry))) .flag ⌝ }

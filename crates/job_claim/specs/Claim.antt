@@ -4,7 +4,7 @@ use mathlib.Core.Path.{_≡_}
 use mathlib.Core.List.{List, []}
 use lib.ListN.{length, getD, take}
 use Rattle.arithmetic.specs.Weight.{span}
-use Rattle.pixels.specs.Sizes.{pixelLanes, rowBytes, pictureBytes, workValues, sizeOf}
+use Rattle.pixels.specs.Sizes.{rowBytes, pictureBytes, workValues, sizeOf}
 use Rattle.pixels.specs.Layout.{placeOf, alphaLane}
 use Rattle.pixels_alpha.specs.Alpha.{hasAlpha}
 use Rattle.pixels_crop.specs.Crop.{cropped}
@@ -37,6 +37,25 @@ pub record Smallest (R : ℕ → ℕ) (accepted taken lent remaining count : ℕ
       → count ≡ min (min lent remaining) c
   pub with-none : ((i : ℕ) → 0 < i → R (accepted + i) ≤ taken) → count ≡ min lent remaining
 
+-- ---- the bytes that the distance is about
+
+-- lane k of column j of taken row y
+abbrev pub takenByte : Plan → Run → ℕ → ℕ → ℕ → ℕ
+takenByte p r k j y = getD (getD (r .seen .rows) y []) (lanesOf p * j + placeOf (p .layout) k) 0
+
+-- "sum of wx×wy×matted byte" of that lane, over the accepted rows inside the crop
+abbrev pub exactOf : Plan → Run → ℕ → ℕ → ℕ → ℕ
+exactOf p r k j y =
+    exactSum (p .crop .width) (p .target .width) (p .crop .height) (p .target .height) (mattedByte p (λ i. getD (r .seen .source) i 0) k) j y
+
+-- Wx × Wy
+abbrev pub totalOf : Plan → ℕ
+totalOf p = total (p .crop .width) (p .target .width) (p .crop .height) (p .target .height)
+
+-- document 01's bound on span and heights
+abbrev pub Bounded : Plan → Type 0
+Bounded p = Premise (span (p .crop .width) (p .target .width)) (p .crop .height) (p .target .height)
+
 -- ---- the claim about where a list of calls has led
 pub record Claim (p : Plan) (r : Run) : Type 0 where
   -- 1. ready plus taken is R(accepted), and there is one such number
@@ -63,18 +82,11 @@ pub record Claim (p : Plan) (r : Run) : Type 0 where
   pub contents : (y : ℕ) → y < r .seen .taken → getD (r .seen .rows) y [] ≡ rowOf p (λ i. getD (r .seen .source) i 0) y
   pub flag : r .seen .flag ≡ hasAlpha (p .layout) (joined (r .seen .rows)) (p .target .width * r .seen .taken)
   -- 5. no taken alpha byte, nor colour byte beside a taken alpha 255, is two or more levels from the exact mean of the matted bytes
-  pub near-alpha : Premise (span (p .crop .width) (p .target .width)) (p .crop .height) (p .target .height)
-      → (y : ℕ) → y < r .seen .taken → (j : ℕ) → j < p .target .width
-      → Near (getD (getD (r .seen .rows) y []) (pixelLanes * j + placeOf (p .layout) alphaLane) 0)
-      (exactSum (p .crop .width) (p .target .width) (p .crop .height) (p .target .height) (mattedByte p (λ i. getD (r .seen .source) i 0) alphaLane) j y)
-      (total (p .crop .width) (p .target .width) (p .crop .height) (p .target .height))
-  pub near-colour : Premise (span (p .crop .width) (p .target .width)) (p .crop .height) (p .target .height)
-      → (y : ℕ) → y < r .seen .taken → (j : ℕ) → j < p .target .width
-      → getD (getD (r .seen .rows) y []) (pixelLanes * j + placeOf (p .layout) alphaLane) 0 ≡ 255
-      → (k : ℕ) → k < alphaLane
-      → Near (getD (getD (r .seen .rows) y []) (pixelLanes * j + placeOf (p .layout) k) 0)
-      (exactSum (p .crop .width) (p .target .width) (p .crop .height) (p .target .height) (mattedByte p (λ i. getD (r .seen .source) i 0) k) j y)
-      (total (p .crop .width) (p .target .width) (p .crop .height) (p .target .height))
+  pub near-alpha : Bounded p → (y : ℕ) → y < r .seen .taken → (j : ℕ) → j < p .target .width
+      → Near (takenByte p r alphaLane j y) (exactOf p r alphaLane j y) (totalOf p)
+  pub near-colour : Bounded p → (y : ℕ) → y < r .seen .taken → (j : ℕ) → j < p .target .width
+      → takenByte p r alphaLane j y ≡ 255 → (k : ℕ) → k < alphaLane
+      → Near (takenByte p r k j y) (exactOf p r k j y) (totalOf p)
   -- 6. once all source rows are accepted and R(source height) rows are taken, the taken rows are the pixels, and the flag the flag, of crop then resize
   pub whole : r .seen .accepted ≡ p .source .height → r .seen .taken ≡ R p (p .source .height)
       → joined (r .seen .rows) ≡ resized (sizeOf (p .crop .width) (p .crop .height)) (p .layout) (p .target) (cropped (p .source) (p .crop) (r .seen .source))

@@ -36,7 +36,7 @@ use Rattle.job.specs.Record.{lanesOf, R, Rules}
 use Rattle.job_claim.specs.Rows.{rowsOf, resizePlan, resized, resizedFlag}
 use Rattle.job_claim.proofs.Reading.{cropValue}
 use Rattle.job_resize.specs.Resize.{rowValueAt, lastFirst, lastSecond, resizedWork}
-use Rattle.job_resize.specs.Steps.{Driven}
+use Rattle.job_resize.specs.Inner.{Driven}
 use Rattle.job_resize.proofs.Going.{bytesOf, Going, rowsOf-length}
 
 -- ---- the last output row needs every crop row

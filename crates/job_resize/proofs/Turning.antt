@@ -23,7 +23,7 @@ use Rattle.job.proofs.Rules.{rules-good}
 use Rattle.job.proofs.Views.{take-went}
 use Rattle.job.proofs.Counting.{counted-stop}
 use Rattle.job_claim.proofs.Invariant.{count-most}
-use Rattle.job_resize.specs.Steps.{Asked, restOf, fedJob, fedWork}
+use Rattle.job_resize.specs.Inner.{Asked, restOf, fedJob, fedWork}
 use Rattle.job_resize.proofs.Going.{bytesOf, Going, rowsOf-length, going-first, remain, lent-length, offered, offer-going, take-accepted, take-going}
 
 -- ---- at the start

@@ -1,2 +1,2 @@
 pub mod Resize
-pub mod Steps
+pub mod Inner

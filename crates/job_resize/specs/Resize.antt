@@ -9,7 +9,7 @@ use Rattle.arithmetic.specs.Table.{tabulate}
 use Rattle.pixels.specs.declared.Dimensions.{Dimensions}
 use Rattle.pixels.specs.declared.PixelLayout.{PixelLayout}
 use Rattle.pixels.specs.declared.Refusal.the-variants.{PixelBufferMismatch, OutputLength, WorkLength}
-use Rattle.pixels.specs.Refusals.{first, otherLength, fewWork, flagIf, bufferIf}
+use Rattle.pixels.specs.Refusals.{Cause, first, otherLength, fewWork, flagIf, bufferIf}
 use Rattle.pixels.specs.Sizes.{pixelLanes, halfValues, workValues, pictureBytes, sizesCauses}
 use Rattle.rows.specs.Column.{value}
 use Rattle.rows.specs.WorkRows.{halfOf}
@@ -18,14 +18,18 @@ use Rattle.job.specs.declared.Plan.{Plan}
 use Rattle.job_claim.specs.Rows.{fullCrop, mattedByte, resizePlan, resized, resizedFlag}
 
 -- 1, 3, 4, 5 ascending, of n bytes of pixels, m of output and w work values
-unfoldable pub resizeNumber : Dimensions → Dimensions → ℕ → ℕ → ℕ → ℕ
-resizeNumber source target n m w =
-    first
-    (sizesCauses source (fullCrop source) target
-    ++ (otherLength n (pictureBytes pixelLanes (source .width) (source .height)) PixelBufferMismatch
+abbrev pub lengthCauses : Dimensions → Dimensions → ℕ → ℕ → ℕ → List Cause
+lengthCauses source target n m w =
+    otherLength n (pictureBytes pixelLanes (source .width) (source .height)) PixelBufferMismatch
     ∷ otherLength m (pictureBytes pixelLanes (target .width) (target .height)) OutputLength
     ∷ fewWork w (workValues pixelLanes (target .width))
-    ∷ []))
+    ∷ []
+
+abbrev pub resizeCauses : Dimensions → Dimensions → ℕ → ℕ → ℕ → List Cause
+resizeCauses source target n m w = sizesCauses source (fullCrop source) target ++ lengthCauses source target n m w
+
+unfoldable pub resizeNumber : Dimensions → Dimensions → ℕ → ℕ → ℕ → ℕ
+resizeNumber source target n m w = first (resizeCauses source target n m w)
 
 -- the value of crop row c at place x of a half, b i being the source's byte i
 unfoldable pub rowValueAt : Plan → (ℕ → ℕ) → ℕ → ℕ → ℕ
@@ -50,3 +54,16 @@ resizedWork source layout target pixels work =
     let b : ℕ → ℕ = λ i. getD pixels i 0 in
     let w : ℕ = halfValues pixelLanes (target .width) in
     tabulate (lastFirst p b) w ++ (tabulate (lastSecond p b) w ++ drop (workValues pixelLanes (target .width)) work)
+
+-- ---- what `resize` answers and leaves, of m bytes of output and w work values
+unfoldable pub resizeFlag : Dimensions → PixelLayout → Dimensions → List ℕ → ℕ → ℕ → Bool
+resizeFlag source layout target pixels m w =
+    flagIf (resizeNumber source target (length pixels) m w) (resizedFlag source layout target pixels)
+
+unfoldable pub resizeOut : Dimensions → PixelLayout → Dimensions → List ℕ → List ℕ → ℕ → List ℕ
+resizeOut source layout target pixels out w =
+    bufferIf (resizeNumber source target (length pixels) (length out) w) (resized source layout target pixels) out
+
+unfoldable pub resizeWork : Dimensions → PixelLayout → Dimensions → List ℕ → ℕ → List ℕ → List ℕ
+resizeWork source layout target pixels m work =
+    bufferIf (resizeNumber source target (length pixels) m (length work)) (resizedWork source layout target pixels work) work

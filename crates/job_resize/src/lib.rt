@@ -7,23 +7,22 @@ use job::start;
 use pixels::Checked;
 use pixels::Dimensions;
 use pixels::Flagged;
+use pixels::PIXEL_LANES;
 use pixels::PixelLayout;
 use pixels::Rect;
 use pixels::Refusal;
 use pixels::check_sizes;
+use pixels::wrong_length;
 ghost use mathlib.Core.Path.{_≡_};
-ghost use mathlib.Core.Bool.{not};
 ghost use mathlib.Core.List.{_++_};
 ghost use Prim.Native.Nat.{_+_, _*_, _≤_};
-ghost use lib.Dec.{eqb};
 ghost use lib.ListN.{length, take, drop};
-ghost use Rattle.pixels.specs.Refusals.{flaggedNumber, flaggedFlag, flagIf, bufferIf};
-ghost use Rattle.pixels.specs.Sizes.{pixelLanes, maxSide, rowBytes, pictureBytes};
+ghost use Rattle.pixels.specs.Refusals.{checkedNumber, flaggedNumber, flaggedFlag};
+ghost use Rattle.pixels.specs.Sizes.{rowBytes};
 ghost use Rattle.job.specs.Answers.{offeredJob, takenJob};
 ghost use Rattle.job.specs.Calls.{takeJob, takeOut, takeWork};
-ghost use Rattle.job_claim.specs.Rows.{resized, resizedFlag};
-ghost use Rattle.job_resize.specs.Resize.{resizeNumber, resizedWork};
-ghost use Rattle.job_resize.specs.Steps.{Asked, Driven, fedJob, fedWork};
+ghost use Rattle.job_resize.specs.Resize.{resizeNumber, resizeFlag, resizeOut, resizeWork};
+ghost use Rattle.job_resize.specs.Inner.{Asked, Driven, fedJob, fedWork};
 ghost use Rattle.job.specs.Record.{lanesOf};
 
 // The next record of an answer, whichever it is.
@@ -54,7 +53,7 @@ fn feed(job: Job, pixels: &[u8], work: &mut [u32]) -> Job
     if job.ready() != 0 {
         return job;
     }
-    let at = 4 * job.plan.source.width as usize * job.accepted as usize;
+    let at = PIXEL_LANES * job.plan.source.width as usize * job.accepted as usize;
     after_offer(job.offer(&pixels[at..], work))
 }
 
@@ -65,12 +64,12 @@ fn emit(job: Job, out: &mut [u8], work: &mut [u32]) -> Job
     ensures out { λ _. ⌜ now (out .exit) ≡ take (rowBytes (lanesOf (job .plan)) (job .plan .target .width) * job .taken) (now (out .entry)) ++ (takeOut job (take (rowBytes (lanesOf (job .plan)) (job .plan .target .width)) (drop (rowBytes (lanesOf (job .plan)) (job .plan .target .width) * job .taken) (now (out .entry)))) (now (work .entry)) ++ drop (rowBytes (lanesOf (job .plan)) (job .plan .target .width)) (drop (rowBytes (lanesOf (job .plan)) (job .plan .target .width) * job .taken) (now (out .entry)))) ⌝ }
     ensures work { λ _. ⌜ now (work .exit) ≡ takeWork job (rowBytes (lanesOf (job .plan)) (job .plan .target .width)) (now (work .entry)) ⌝ }
 {
-    let size = 4 * job.plan.target.width as usize;
+    let size = PIXEL_LANES * job.plan.target.width as usize;
     let at = size * job.taken as usize;
     after_take(job.take(&mut out[at..at + size], work))
 }
 
-// Drives a fresh job to its end.
+// Drives a fresh job to its end. The Rust: rescale_plane.
 fn drive(first: Job, pixels: &[u8], out: &mut [u8], work: &mut [u32]) -> Job
     requires { ⌜ Asked first (now pixels) (now out) (now work) ⌝ }
     ensures { λ r. ⌜ Driven (first .plan) (now (pixels .entry)) (now (work .entry)) (r .flag) (now (out .exit)) (now (work .exit)) ⌝ }
@@ -83,15 +82,38 @@ fn drive(first: Job, pixels: &[u8], out: &mut [u8], work: &mut [u32]) -> Job
     job
 }
 
-fn wrong_length(length: usize, size: Dimensions) -> bool
-    requires { ⌜ (size .width ≤ maxSide) × (size .height ≤ maxSide) ⌝ }
-    ensures { λ r. ⌜ r ≡ not (eqb length (pictureBytes pixelLanes (size .width) (size .height))) ⌝ }
+// 1, 3, 4, 5 ascending, of the lengths lent.
+fn check_resize(
+    source: Dimensions,
+    target: Dimensions,
+    pixels: usize,
+    out: usize,
+    work: usize,
+) -> Checked
+    ensures { λ r. ⌜ checkedNumber r ≡ resizeNumber source target pixels out work ⌝ }
 {
-    length != 4 * size.width as usize * size.height as usize
+    let crop = Rect::new(0, 0, source.width, source.height);
+    let checked = check_sizes(source, crop, target);
+    match checked {
+        Checked::Refused(why) => {
+            return Checked::Refused(why);
+        }
+        Checked::Fit => {}
+    }
+    if wrong_length(pixels, source) {
+        return Checked::Refused(Refusal::PixelBufferMismatch);
+    }
+    if wrong_length(out, target) {
+        return Checked::Refused(Refusal::OutputLength);
+    }
+    if work < 2 * PIXEL_LANES * target.width as usize {
+        return Checked::Refused(Refusal::WorkLength);
+    }
+    Checked::Fit
 }
 
 // A picture scaled to the target's size; returns its alpha flag. The Rust: Image::resize.
-// Rules out: equal sizes copied unchanged; the flag of the source kept; 4 told before 3; work values beyond the halves touched.
+// Rules out: the flag turned round; 3 told for the output's length; the first row again and again; a picture that stops a row early.
 pub fn resize(
     source: Dimensions,
     layout: PixelLayout,
@@ -101,27 +123,18 @@ pub fn resize(
     work: &mut [u32],
 ) -> Flagged
     ensures number { λ r. ⌜ flaggedNumber r ≡ resizeNumber source target (length (now (pixels .entry))) (length (now (out .entry))) (length (now (work .entry))) ⌝ }
-    ensures flag { λ r. ⌜ flaggedFlag r ≡ flagIf (resizeNumber source target (length (now (pixels .entry))) (length (now (out .entry))) (length (now (work .entry)))) (resizedFlag source layout target (now (pixels .entry))) ⌝ }
-    ensures out { λ _. ⌜ now (out .exit) ≡ bufferIf (resizeNumber source target (length (now (pixels .entry))) (length (now (out .entry))) (length (now (work .entry)))) (resized source layout target (now (pixels .entry))) (now (out .entry)) ⌝ }
-    ensures work { λ _. ⌜ now (work .exit) ≡ bufferIf (resizeNumber source target (length (now (pixels .entry))) (length (now (out .entry))) (length (now (work .entry)))) (resizedWork source layout target (now (pixels .entry)) (now (work .entry))) (now (work .entry)) ⌝ }
+    ensures flag { λ r. ⌜ flaggedFlag r ≡ resizeFlag source layout target (now (pixels .entry)) (length (now (out .entry))) (length (now (work .entry))) ⌝ }
+    ensures out { λ _. ⌜ now (out .exit) ≡ resizeOut source layout target (now (pixels .entry)) (now (out .entry)) (length (now (work .entry))) ⌝ }
+    ensures work { λ _. ⌜ now (work .exit) ≡ resizeWork source layout target (now (pixels .entry)) (length (now (out .entry))) (now (work .entry)) ⌝ }
 {
-    let crop = Rect::new(0, 0, source.width, source.height);
-    let checked = check_sizes(source, crop, target);
+    let checked = check_resize(source, target, pixels.len(), out.len(), work.len());
     match checked {
         Checked::Refused(why) => {
             return Flagged::Refused(why);
         }
         Checked::Fit => {}
     }
-    if wrong_length(pixels.len(), source) {
-        return Flagged::Refused(Refusal::PixelBufferMismatch);
-    }
-    if wrong_length(out.len(), target) {
-        return Flagged::Refused(Refusal::OutputLength);
-    }
-    if work.len() < 8 * target.width as usize {
-        return Flagged::Refused(Refusal::WorkLength);
-    }
+    let crop = Rect::new(0, 0, source.width, source.height);
     let started = start(source, layout, crop, target, work);
     match started {
         Started::Refused { why } => Flagged::Refused(why),
