@@ -19,6 +19,17 @@ use Rattle.job.specs.Calls.{lentRows, mostRows, count, rowAccepted, fed,
 use Rattle.job.proofs.Counting.{counted-is}
 use Rattle.job.proofs.Views.{OfferWent, offer-went}
 
+-- ---- the most rows there may be, as the code finds them; s is the length of a source row
+module _ (j : Job) (n s : ℕ) (is : s ≡ rowBytes (lanesOf (j .plan)) (j .plan .source .width)) where
+  lent-is : n / s ≡ lentRows (j .plan) n
+  lent-is = ap (λ (x : ℕ). n / x) is
+
+  pub most-lent : n / s < j .plan .source .height - j .accepted → n / s ≡ mostRows j n
+  most-lent l = lent-is ∙ (let m : lentRows (j .plan) n < j .plan .source .height - j .accepted = rw lent-is at l in omega arith)
+
+  pub most-left : j .plan .source .height - j .accepted ≤ n / s → j .plan .source .height - j .accepted ≡ mostRows j n
+  most-left l = let m : j .plan .source .height - j .accepted ≤ lentRows (j .plan) n = rw lent-is at l in omega arith
+
 fed-none : (p : Plan) (rows work : List ℕ) (k : ℕ) → work ≡ fed p rows k 0 work
 unfolding fed
 fed-none p rows work k = refl
