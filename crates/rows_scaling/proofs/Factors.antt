@@ -20,9 +20,9 @@ use Rattle.arithmetic.proofs.Weights.{span-shrink, span-grow}
 use Rattle.arithmetic.proofs.Tables.{tabulate-cong}
 use Rattle.arithmetic.proofs.Quotients.{div-bound}
 use Rattle.arithmetic.proofs.FixedPoints.{frac-exact, frac-zero}
-use Rattle.rows.specs.Output.{clamp, restDown, share, ratio, byteDown, leftDown, restUp, blend, byteUp}
-use Rattle.rows.specs.WorkRows.{halfOf, byteOut, rowLeft}
-use Rattle.rows_scaling.specs.Export.{shrinkLeft, shrinkByte, lowByte, mixed, growByte}
+use Rattle.rows.specs.Output.{clamp, restDown, share, ratio, byteDown, leftDown, restUp, mixed, blend, byteUp}
+use Rattle.rows.specs.WorkRows.{Scale, halfOf, byteOut, rowLeft}
+use Rattle.rows_scaling.specs.Inner.Scaling.{shrinkLeft, shrinkByte, lowByte, growByte}
 
 -- ---- two words weighed by 2^32 in all
 pub blend-most : (a b : ℕ) {x y : ℕ} → a + b ≡ 2 ^ 32 → x < 2 ^ 32 → y < 2 ^ 32 → a * x + b * y ≤ 2 ^ 32 * 0xffff_ffff
@@ -61,7 +61,7 @@ unfolding FRAC
 frac-none m = ap (λ (t : ℕ). t % 2 ^ 32) (zero-div m)
 
 pub blend-is : (g d newer older : ℕ) → mixed (FRAC d (g - 1)) newer older ≡ blend g d newer older
-unfolding blend mixed
+unfolding blend
 blend-is g zero newer older = ap (λ (b : ℕ). mixed b newer older) (frac-none (g - 1)) ∙ mixed-none newer older
 blend-is g (suc d) newer older = simp (ne-eqb (suc d) 0 (λ e. omega arith))
 
@@ -94,42 +94,49 @@ span-some n m p =
     ⊎-elim (λ h. rw (span-shrink n m h) p) (λ h. rw (span-grow n m h) (omega arith)) (le-or-lt m n)
 
 -- ---- g ≤ h: what the loops write is what document 01 says
-module _ (sp h g w u y : ℕ) (work : List ℕ) (down : g ≤ h) {q step : ℕ} (q-is : q ≡ ratio sp h g) (step-is : step ≡ wrapMul (FRAC 1 g) (restDown h g u y)) where
-  left-is : (x : ℕ) → shrinkLeft step w work x ≡ share g (restDown h g u y) (getD work (w + x) 0)
-  unfolding shrinkLeft
-  left-is x = ap (FLOOR (getD work (w + x) 0)) step-is ∙ share-is g (restDown h g u y) (getD work (w + x) 0)
+module _ (s : Scale) (u y : ℕ) (work : List ℕ) (down : s .g ≤ s .h) where
+  abbrev d : ℕ
+  d = restDown (s .h) (s .g) u y
 
-  module _ (word : q ≡ 2 ^ 32 → ⊥) where
-    ne : ratio sp h g ≡ 2 ^ 32 → ⊥
-    ne e = word (q-is ∙ e)
+  abbrev full : ℕ
+  full = ratio (s .span) (s .h) (s .g)
 
-    pub shrink-out : {out : List ℕ} → out ≡ tabulate (shrinkByte step q w work) w → out ≡ tabulate (byteOut sp h g w u y work) w
-    unfolding shrinkByte byteOut byteDown
-    shrink-out e =
+  module _ {q step : ℕ} (q-is : q ≡ full) (step-is : step ≡ wrapMul (FRAC 1 (s .g)) d) where
+    left-is : (x : ℕ) → shrinkLeft step (s .w) work x ≡ share (s .g) d (getD work (s .w + x) 0)
+    unfolding shrinkLeft
+    left-is x = ap (FLOOR (getD work (s .w + x) 0)) step-is ∙ share-is (s .g) d (getD work (s .w + x) 0)
+
+    module _ (word : q ≡ 2 ^ 32 → ⊥) where
+      ne : full ≡ 2 ^ 32 → ⊥
+      ne e = word (q-is ∙ e)
+
+      pub shrink-out : {out : List ℕ} → out ≡ tabulate (shrinkByte step q (s .w) work) (s .w) → out ≡ tabulate (byteOut s u y work) (s .w)
+      unfolding shrinkByte byteOut byteDown
+      shrink-out e =
+          e
+          ∙ tabulate-cong (shrinkByte step q (s .w) work) (byteOut s u y work) (s .w)
+          (λ x l. simp (le-leb (s .g) (s .h) down, ne-eqb full (2 ^ 32) ne, q-is, left-is x))
+
+      pub shrink-work : {work′ : List ℕ} → work′ ≡ tabulate (shrinkLeft step (s .w) work) (s .w) ++ drop (s .w) work → work′ ≡ rowLeft s u y work
+      unfolding rowLeft leftDown
+      shrink-work e =
+          simp (le-leb (s .g) (s .h) down, ne-eqb full (2 ^ 32) ne)
+          (e
+          ∙ ap (λ (t : List ℕ). t ++ drop (s .w) work)
+          (tabulate-cong (shrinkLeft step (s .w) work) (λ x. share (s .g) d (getD work (s .w + x) 0)) (s .w) (λ x l. left-is x)))
+
+  -- where the ratio is 2^32
+  module _ (one : full ≡ 2 ^ 32) where
+    pub take-out : {out : List ℕ} → out ≡ tabulate (lowByte work) (s .w) → out ≡ tabulate (byteOut s u y work) (s .w)
+    unfolding lowByte byteOut byteDown
+    take-out e =
         e
-        ∙ tabulate-cong (shrinkByte step q w work) (byteOut sp h g w u y work) w
-        (λ x l. simp (le-leb g h down, ne-eqb (ratio sp h g) (2 ^ 32) ne, q-is, left-is x))
+        ∙ tabulate-cong (lowByte work) (byteOut s u y work) (s .w)
+        (λ x l. simp (le-leb (s .g) (s .h) down, eq-eqb full (2 ^ 32) one))
 
-    pub shrink-work : {work′ : List ℕ} → work′ ≡ tabulate (shrinkLeft step w work) w ++ drop w work → work′ ≡ rowLeft sp h g w u y work
+    pub take-work : {work′ : List ℕ} → work′ ≡ tabulate (λ x. 0) (s .w) ++ drop (s .w) work → work′ ≡ rowLeft s u y work
     unfolding rowLeft leftDown
-    shrink-work e =
-        simp (le-leb g h down, ne-eqb (ratio sp h g) (2 ^ 32) ne)
-        (e
-        ∙ ap (λ (t : List ℕ). t ++ drop w work)
-        (tabulate-cong (shrinkLeft step w work) (λ x. share g (restDown h g u y) (getD work (w + x) 0)) w (λ x l. left-is x)))
-
--- where the ratio is 2^32
-module _ (sp h g w u y : ℕ) (work : List ℕ) (down : g ≤ h) (one : ratio sp h g ≡ 2 ^ 32) where
-  pub take-out : {out : List ℕ} → out ≡ tabulate (lowByte work) w → out ≡ tabulate (byteOut sp h g w u y work) w
-  unfolding lowByte byteOut byteDown
-  take-out e =
-      e
-      ∙ tabulate-cong (lowByte work) (byteOut sp h g w u y work) w
-      (λ x l. simp (le-leb g h down, eq-eqb (ratio sp h g) (2 ^ 32) one))
-
-  pub take-work : {work′ : List ℕ} → work′ ≡ tabulate (λ x. 0) w ++ drop w work → work′ ≡ rowLeft sp h g w u y work
-  unfolding rowLeft leftDown
-  take-work e = simp (le-leb g h down, eq-eqb (ratio sp h g) (2 ^ 32) one) e
+    take-work e = simp (le-leb (s .g) (s .h) down, eq-eqb full (2 ^ 32) one) e
 
 -- ---- g > h: the same
 pub half-most : (w c : ℕ) → halfOf w c ≤ w
@@ -148,26 +155,43 @@ half-lent work w {at} {a} e =
 part-at : (work : List ℕ) (at w x : ℕ) → x < w → getD (take w (drop at work)) x 0 ≡ getD work (at + x) 0
 part-at work at w x l = getD-take w (drop at work) x 0 l ∙ getD-drop at work x 0
 
-module _ (sp h g w u y : ℕ) (work : List ℕ) (up : h < g) {b factor : ℕ} {newer older : List ℕ} (b-is : b ≡ FRAC (restUp h g u y) (g - 1)) (factor-is : factor ≡ FRAC 1 sp)
-    (newer-is : newer ≡ take w (drop (halfOf w (u - 1)) work)) (older-is : older ≡ take w (drop (halfOf w u) work)) where
-  new-at : (x : ℕ) → x < w → getD newer x 0 ≡ getD work (halfOf w (u - 1) + x) 0
-  new-at x l = ap (λ (t : List ℕ). getD t x 0) newer-is ∙ part-at work (halfOf w (u - 1)) w x l
+module _ (s : Scale) (u y : ℕ) (work : List ℕ) (up : s .h < s .g) where
+  abbrev rest : ℕ
+  rest = restUp (s .h) (s .g) u y
 
-  old-at : (x : ℕ) → x < w → getD older x 0 ≡ getD work (halfOf w u + x) 0
-  old-at x l = ap (λ (t : List ℕ). getD t x 0) older-is ∙ part-at work (halfOf w u) w x l
+  -- the halves of the newer and the older row
+  abbrev new : ℕ
+  new = halfOf (s .w) (u - 1)
 
-  up-byte : (x : ℕ) → x < w → growByte b factor newer older x ≡ byteOut sp h g w u y work x
-  unfolding growByte byteOut byteUp
-  up-byte x l =
-      let j-is : mixed b (getD newer x 0) (getD older x 0) ≡ blend g (restUp h g u y) (getD work (halfOf w (u - 1) + x) 0) (getD work (halfOf w u + x) 0) =
-      rw (new-at x l, old-at x l, b-is) (blend-is g (restUp h g u y) (getD work (halfOf w (u - 1) + x) 0) (getD work (halfOf w u + x) 0)) in
-      simp (lt-leb g h up) (ap₂ (λ (j f : ℕ). clamp (MULT j f)) j-is factor-is)
+  abbrev old : ℕ
+  old = halfOf (s .w) u
 
-  pub grow-out : {out : List ℕ} → out ≡ tabulate (growByte b factor newer older) w → out ≡ tabulate (byteOut sp h g w u y work) w
-  grow-out e = e ∙ tabulate-cong (growByte b factor newer older) (byteOut sp h g w u y work) w up-byte
+  -- the halves stay
+  pub halves-stay : work ≡ rowLeft s u y work
+  unfolding rowLeft
+  halves-stay = simp (lt-leb (s .g) (s .h) up)
 
-  pub level-out : {out : List ℕ} → b ≡ 0 → out ≡ tabulate (growByte 0 factor newer newer) w → out ≡ tabulate (byteOut sp h g w u y work) w
-  level-out z e =
-      e
-      ∙ tabulate-cong (growByte 0 factor newer newer) (byteOut sp h g w u y work) w
-      (λ x l. none-older factor newer older x ∙ ap (λ (t : ℕ). growByte t factor newer older x) (sym z) ∙ up-byte x l)
+  module _ {b factor : ℕ} {newer older : List ℕ} (b-is : b ≡ FRAC rest (s .g - 1)) (factor-is : factor ≡ FRAC 1 (s .span))
+      (newer-is : newer ≡ take (s .w) (drop new work)) (older-is : older ≡ take (s .w) (drop old work)) where
+    new-at : (x : ℕ) → x < s .w → getD newer x 0 ≡ getD work (new + x) 0
+    new-at x l = ap (λ (t : List ℕ). getD t x 0) newer-is ∙ part-at work new (s .w) x l
+
+    old-at : (x : ℕ) → x < s .w → getD older x 0 ≡ getD work (old + x) 0
+    old-at x l = ap (λ (t : List ℕ). getD t x 0) older-is ∙ part-at work old (s .w) x l
+
+    up-byte : (x : ℕ) → x < s .w → growByte b factor newer older x ≡ byteOut s u y work x
+    unfolding growByte byteOut byteUp
+    up-byte x l =
+        let n : ℕ = getD work (new + x) 0 in
+        let o : ℕ = getD work (old + x) 0 in
+        let j-is : mixed b (getD newer x 0) (getD older x 0) ≡ blend (s .g) rest n o = rw (new-at x l, old-at x l, b-is) (blend-is (s .g) rest n o) in
+        simp (lt-leb (s .g) (s .h) up) (ap₂ (λ (j f : ℕ). clamp (MULT j f)) j-is factor-is)
+
+    pub grow-out : {out : List ℕ} → out ≡ tabulate (growByte b factor newer older) (s .w) → out ≡ tabulate (byteOut s u y work) (s .w)
+    grow-out e = e ∙ tabulate-cong (growByte b factor newer older) (byteOut s u y work) (s .w) up-byte
+
+    pub level-out : {out : List ℕ} → b ≡ 0 → out ≡ tabulate (growByte 0 factor newer newer) (s .w) → out ≡ tabulate (byteOut s u y work) (s .w)
+    level-out z e =
+        e
+        ∙ tabulate-cong (growByte 0 factor newer newer) (byteOut s u y work) (s .w)
+        (λ x l. none-older factor newer older x ∙ ap (λ (t : ℕ). growByte t factor newer older x) (sym z) ∙ up-byte x l)

@@ -1,6 +1,6 @@
-pub mod Clamps
+pub mod Clamp
 pub mod Factors
-pub mod Shrinks
-pub mod Grows
-pub mod Dues
-pub mod Scalings
+pub mod ShrinkLanes
+pub mod BlendLanes
+pub mod DueRow
+pub mod ScaleRow

@@ -1,2 +1,2 @@
 pub mod Scaling
-pub mod Export
+pub mod Inner

@@ -9,7 +9,7 @@ use Rattle.arithmetic.specs.Table.{tabulate}
 use Rattle.arithmetic.specs.Weight.{span}
 use Rattle.pixels.specs.declared.Dimensions.{Dimensions}
 use Rattle.pixels.specs.declared.Refusal.the-variants.{OutputLength, WorkLength, NoneReady}
-use Rattle.pixels.specs.Refusals.{cause, first, otherLength, fewWork, bufferIf}
+use Rattle.pixels.specs.Refusals.{Cause, cause, first, otherLength, fewWork, bufferIf}
 use Rattle.pixels.specs.Sizes.{pixelLanes, rowBytes, halfValues, workValues, wrongSize}
 use Rattle.rows.specs.WorkRows.{Scale, byteOut, rowLeft}
 
@@ -33,16 +33,19 @@ due h g u y =
     (within (u * g) (suc y * h) g)
     (ltb 0 u && within ((u - 1) * (g - 1)) (y * (h - 1)) (g - 1))
 
--- 1, 4, 5 and 9, ascending; 0 where the row is made
-unfoldable pub scaleNumber : Dimensions → Dimensions → ℕ → ℕ → ℕ → ℕ → ℕ
-scaleNumber crop target u y outBytes workCount =
-    first
-    (wrongSize crop
+-- 1, 4, 5 and 9, ascending
+abbrev pub scaleCauses : Dimensions → Dimensions → ℕ → ℕ → ℕ → ℕ → List Cause
+scaleCauses crop target u y outBytes workCount =
+    wrongSize crop
     ∷ wrongSize target
     ∷ otherLength outBytes (rowBytes pixelLanes (target .width)) OutputLength
     ∷ fewWork workCount (workValues pixelLanes (target .width))
     ∷ cause (not (due (crop .height) (target .height) u y)) NoneReady
-    ∷ [])
+    ∷ []
+
+-- 0 where the row is made
+unfoldable pub scaleNumber : Dimensions → Dimensions → ℕ → ℕ → ℕ → ℕ → ℕ
+scaleNumber crop target u y outBytes workCount = first (scaleCauses crop target u y outBytes workCount)
 
 -- the output: the row's lanes B, G, R, A, pixel after pixel, not yet restored
 unfoldable pub scaledOut : Dimensions → Dimensions → ℕ → ℕ → List ℕ → List ℕ → List ℕ

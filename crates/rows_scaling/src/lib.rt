@@ -1,103 +1,78 @@
-// A row goes out (document 01; the Rust: Rescaler::export_row of geometry.rs, libwebp's WebPRescalerExportRowShrink_C and
-// WebPRescalerExportRowExpand_C). Work values may be anything: differences wrap, products are taken in 64 bits.
+// A row goes out (document 01; the Rust: Rescaler::export_row of geometry.rs, libwebp's WebPRescalerExportRow). Work values may be anything:
+// differences wrap, products are taken in 64 bits.
 use arithmetic::frac;
 use arithmetic::mult_fix;
 use arithmetic::mult_fix_floor;
 use arithmetic::wrapping_mul;
+use pixels::Checked;
 use pixels::Dimensions;
+use pixels::PIXEL_LANES;
 use pixels::Refusal;
-use pixels::Sized;
-use rows::Done;
+use pixels::bad_size;
 use std::num::wrapping_sub_u32;
 ghost use mathlib.Core.Path.{_≡_};
 ghost use mathlib.Core.List.{_++_};
 ghost use Prim.Native.Nat.{_+_, _^_, _≤_, _<_};
-ghost use lib.Dec.{T};
 ghost use lib.ListN.{length, drop};
-ghost use lib.Signed.{nonNeg};
-ghost use lib.IntN.{pos, natAbs};
 ghost use Rattle.arithmetic.specs.Table.{tabulate};
 ghost use Rattle.arithmetic.specs.Weight as weight;
-ghost use Rattle.pixels.specs.Sizes.{badSize};
-ghost use Rattle.rows.specs.Output.{clamp};
+ghost use Rattle.pixels.specs.Refusals.{checkedNumber};
+ghost use Rattle.rows.specs.Output.{clamp, mixed};
 ghost use Rattle.rows.specs.WorkRows.{halfOf, byteOut, rowLeft};
-ghost use Rattle.rows.specs.Done.{doneNumber};
 ghost use Rattle.rows_scaling.specs.Scaling as scaling;
 ghost use Rattle.rows_scaling.specs.Scaling.{within, scaleNumber, scaledOut, scaledWork};
-ghost use Rattle.rows_scaling.specs.Export.{ShrinkAsks, GrowAsks, DownAsks, UpAsks, shrinkLeft, shrinkByte, lowByte, mixed, growByte};
+ghost use Rattle.rows_scaling.specs.Inner.Scaling.{scaleIn, RowAsks, RoomAsks, GrowAsks, Halved, shrinkLeft, shrinkByte, lowByte, growByte};
 
-fn at_most(s: i32) -> i32
-    requires { ⌜ T (nonNeg s) ⌝ }
-    ensures { λ r. ⌜ r ≡ pos (clamp (natAbs s)) ⌝ }
-{
-    if s > 255 {
-        return 255;
-    }
-    s
+// What rows are scaled by: document 01's span, crop height h and target height g, and w, the values of a half.
+struct RowScale {
+    span: u32,
+    h: u32,
+    g: u32,
+    w: usize,
 }
 
-fn at_least(s: i32) -> i32
-    requires { ⌜ T (nonNeg s) ⌝ }
-    ensures { λ r. ⌜ r ≡ s ⌝ }
-{
-    if s < 0 {
-        return 0;
-    }
-    s
-}
-
-// v, at most 255. The two signed tests become one saturating pack of many values.
-fn byte_of(v: u32) -> u8
-    requires { ⌜ v < 2 ^ 31 ⌝ }
+// v, at most 255. Where v is below 2^31 the two signed tests become one saturating pack of many values; `signed` is the same for a whole row, so the
+// loops are compiled once for each.
+fn byte_of(v: u32, signed: bool) -> u8
+    requires { ⌜ Halved signed v ⌝ }
     ensures { λ r. ⌜ r ≡ clamp v ⌝ }
 {
-    at_least(at_most(v as i32)) as u8
-}
-
-// The same for any v.
-fn byte_of_any(v: u32) -> u8
-    ensures { λ r. ⌜ r ≡ clamp v ⌝ }
-{
+    if signed {
+        let s = v as i32;
+        if s > 255 {
+            return 255;
+        }
+        if s < 0 {
+            return 0;
+        }
+        return s as u8;
+    }
     if v > 255 {
         return 255;
     }
     v as u8
 }
 
-// Heights that do not grow: f of each value of the second half replaces the first half, and the byte is made of their difference.
-fn shrink_lanes(work: &mut [u32], w: usize, step: u32, q: u32, out: &mut [u8])
-    requires { ⌜ ShrinkAsks (now work) (now out) w ⌝ }
-    requires { ⌜ q < 2 ^ 31 ⌝ }
+// Heights that do not grow: f of each value of the second half replaces the first half, and the byte is made of their difference. The loop of
+// export_row_shrink.
+fn shrink_lanes(work: &mut [u32], w: usize, step: u32, q: u32, signed: bool, out: &mut [u8])
+    requires { ⌜ RoomAsks (now work) (now out) w ⌝ }
+    requires { ⌜ Halved signed q ⌝ }
     ensures out { λ _. ⌜ now (out .exit) ≡ tabulate (shrinkByte step q w (now (work .entry))) w ⌝ }
     ensures work { λ _. ⌜ now (work .exit) ≡ tabulate (shrinkLeft step w (now (work .entry))) w ++ drop w (now (work .entry)) ⌝ }
 {
     let mut k = 0usize;
     while k < w {
         let f = mult_fix_floor(work[w + k], step);
-        out[k] = byte_of(mult_fix(wrapping_sub_u32(work[k], f), q));
+        out[k] = byte_of(mult_fix(wrapping_sub_u32(work[k], f), q), signed);
         work[k] = f;
         k += 1;
     }
 }
 
-// The same for a ratio of 2^31 or more: spans 1 and 2.
-fn shrink_lanes_any(work: &mut [u32], w: usize, step: u32, q: u32, out: &mut [u8])
-    requires { ⌜ ShrinkAsks (now work) (now out) w ⌝ }
-    ensures out { λ _. ⌜ now (out .exit) ≡ tabulate (shrinkByte step q w (now (work .entry))) w ⌝ }
-    ensures work { λ _. ⌜ now (work .exit) ≡ tabulate (shrinkLeft step w (now (work .entry))) w ++ drop w (now (work .entry)) ⌝ }
-{
-    let mut k = 0usize;
-    while k < w {
-        let f = mult_fix_floor(work[w + k], step);
-        out[k] = byte_of_any(mult_fix(wrapping_sub_u32(work[k], f), q));
-        work[k] = f;
-        k += 1;
-    }
-}
-
-// The ratio 2^32, which no word holds: the first half's low bytes go out, and it becomes 0.
+// The ratio 2^32, which no word holds: the first half's low bytes go out, and it becomes 0. The Rust's export_row_special.
 fn take_lanes(work: &mut [u32], w: usize, out: &mut [u8])
-    requires { ⌜ ShrinkAsks (now work) (now out) w ⌝ }
+    requires { ⌜ RoomAsks (now work) (now out) w ⌝ }
     ensures out { λ _. ⌜ now (out .exit) ≡ tabulate (lowByte (now (work .entry))) w ⌝ }
     ensures work { λ _. ⌜ now (work .exit) ≡ tabulate (λ x. 0) w ++ drop w (now (work .entry)) ⌝ }
 {
@@ -109,15 +84,15 @@ fn take_lanes(work: &mut [u32], w: usize, out: &mut [u8])
     }
 }
 
-// Heights that grow, d = 0: the newer row alone.
-fn level_lanes(newer: &[u32], w: usize, factor: u32, out: &mut [u8])
+// Heights that grow, d = 0: the newer row alone. The first loop of export_row_expand.
+fn level_lanes(newer: &[u32], w: usize, factor: u32, signed: bool, out: &mut [u8])
     requires { ⌜ GrowAsks (now newer) (now newer) (now out) w ⌝ }
-    requires { ⌜ factor < 2 ^ 31 ⌝ }
+    requires { ⌜ Halved signed factor ⌝ }
     ensures { λ _. ⌜ now (out .exit) ≡ tabulate (growByte 0 factor (now (newer .entry)) (now (newer .entry))) w ⌝ }
 {
     let mut k = 0usize;
     while k < w {
-        out[k] = byte_of(mult_fix(newer[k], factor));
+        out[k] = byte_of(mult_fix(newer[k], factor), signed);
         k += 1;
     }
 }
@@ -130,37 +105,25 @@ fn blended(newer: u32, older: u32, a: u32, b: u32) -> u32
     ((a as u64 * newer as u64 + b as u64 * older as u64 + 2147483648) / 4294967296) as u32
 }
 
-// Heights that grow: the newer row and the older one blended, b of the older.
-fn blend_lanes(newer: &[u32], older: &[u32], w: usize, b: u32, factor: u32, out: &mut [u8])
+// Heights that grow: the newer row and the older one blended, b of the older. The second loop of export_row_expand.
+fn blend_lanes(
+    newer: &[u32],
+    older: &[u32],
+    w: usize,
+    b: u32,
+    factor: u32,
+    signed: bool,
+    out: &mut [u8],
+)
     requires { ⌜ GrowAsks (now newer) (now older) (now out) w ⌝ }
     requires { ⌜ 0 < b ⌝ }
-    requires { ⌜ factor < 2 ^ 31 ⌝ }
+    requires { ⌜ Halved signed factor ⌝ }
     ensures { λ _. ⌜ now (out .exit) ≡ tabulate (growByte b factor (now (newer .entry)) (now (older .entry))) w ⌝ }
 {
     let a = (4294967296u64 - b as u64) as u32;
     let mut k = 0usize;
     while k < w {
-        out[k] = byte_of(mult_fix(blended(newer[k], older[k], a, b), factor));
-        k += 1;
-    }
-}
-
-// The same with any b, 0 among them.
-fn blended_any(newer: u32, older: u32, b: u32) -> u32
-    ensures { λ r. ⌜ r ≡ mixed b newer older ⌝ }
-{
-    (((4294967296 - b as u64) * newer as u64 + b as u64 * older as u64 + 2147483648)
-        / 4294967296) as u32
-}
-
-// The same for a factor of 2^31 or more, and any b: span 2.
-fn blend_lanes_any(newer: &[u32], older: &[u32], w: usize, b: u32, factor: u32, out: &mut [u8])
-    requires { ⌜ GrowAsks (now newer) (now older) (now out) w ⌝ }
-    ensures { λ _. ⌜ now (out .exit) ≡ tabulate (growByte b factor (now (newer .entry)) (now (older .entry))) w ⌝ }
-{
-    let mut k = 0usize;
-    while k < w {
-        out[k] = byte_of_any(mult_fix(blended_any(newer[k], older[k], b), factor));
+        out[k] = byte_of(mult_fix(blended(newer[k], older[k], a, b), factor), signed);
         k += 1;
     }
 }
@@ -175,7 +138,7 @@ fn in_range(x: u64, from: u64, room: u64) -> bool
     x - from < room
 }
 
-// Whether u crop rows are those of the output row: d lies in its range.
+// Whether u crop rows are those of the output row: d lies in its range. The Rust's has_pending_output, of a row and not of a running y_accum.
 fn due(h: u32, g: u32, used: u32, row: u32) -> bool
     requires { ⌜ 1 ≤ h ⌝ }
     ensures { λ r. ⌜ r ≡ scaling.due h g used row ⌝ }
@@ -217,68 +180,95 @@ fn span(n: u32, m: u32) -> u32
     m - 1
 }
 
-fn bad_size(size: Dimensions) -> bool
-    ensures { λ r. ⌜ r ≡ badSize size ⌝ }
+// The height does not grow: the Rust's export_row_shrink and export_row_special. FLOOR with the factor 0 is 0, so that d = 0 is no case of its own.
+// The sizes are tested, and not the ratio: a compiler that knew the ratio below 2^31 would drop the signed test of `byte_of`, and the saturating pack
+// with it.
+fn shrink_row(s: RowScale, used: u32, row: u32, out: &mut [u8], work: &mut [u32])
+    requires { ⌜ RowAsks (scaleIn s) used row ⌝ }
+    requires { ⌜ s .g ≤ s .h ⌝ }
+    requires { ⌜ RoomAsks (now work) (now out) (s .w) ⌝ }
+    ensures out { λ _. ⌜ now (out .exit) ≡ tabulate (byteOut (scaleIn s) used row (now (work .entry))) (s .w) ⌝ }
+    ensures work { λ _. ⌜ now (work .exit) ≡ rowLeft (scaleIn s) used row (now (work .entry)) ⌝ }
 {
-    match Dimensions::new(size.width, size.height) {
-        Sized::Size(_) => false,
-        Sized::Refused(_) => true,
-    }
-}
-
-// The height does not grow. FLOOR with the factor 0 is 0, so that d = 0 is no case of its own. The sizes are tested, and not the ratio: a compiler that
-// knew the ratio below 2^31 would drop the signed test of `byte_of`, and the saturating pack with it.
-fn shrink_row(
-    sp: u32,
-    h: u32,
-    g: u32,
-    used: u32,
-    row: u32,
-    w: usize,
-    out: &mut [u8],
-    work: &mut [u32],
-)
-    requires { ⌜ DownAsks sp h g used row ⌝ }
-    requires { ⌜ ShrinkAsks (now work) (now out) w ⌝ }
-    ensures out { λ _. ⌜ now (out .exit) ≡ tabulate (byteOut sp h g w used row (now (work .entry))) w ⌝ }
-    ensures work { λ _. ⌜ now (work .exit) ≡ rowLeft sp h g w used row (now (work .entry)) ⌝ }
-{
-    let d = (used as u64 * g as u64 - (row as u64 + 1) * h as u64) as u32;
-    let step = wrapping_mul(frac(1, g), d);
-    let q = g as u64 * 4294967296 / (sp as u64 * h as u64);
+    let d = (used as u64 * s.g as u64 - (row as u64 + 1) * s.h as u64) as u32;
+    let step = wrapping_mul(frac(1, s.g), d);
+    let whole = s.span as u64 * s.h as u64;
+    let q = s.g as u64 * 4294967296 / whole;
+    let w = s.w;
     if q == 4294967296 {
         take_lanes(work, w, out);
         return;
     }
-    if 2 * (g as u64) < sp as u64 * h as u64 {
-        shrink_lanes(work, w, step, q as u32, out);
-        return;
-    }
-    shrink_lanes_any(work, w, step, q as u32, out);
+    let signed = 2 * (s.g as u64) < whole;
+    shrink_lanes(work, w, step, q as u32, signed, out);
 }
 
-// The height grows: no work value changes. The factor is 2^31 or more for span 2 alone, which is tested for the same reason.
-fn grow_row(sp: u32, h: u32, g: u32, used: u32, row: u32, w: usize, out: &mut [u8], work: &[u32])
-    requires { ⌜ UpAsks h g used row ⌝ }
-    requires { ⌜ ShrinkAsks (now work) (now out) w ⌝ }
-    ensures { λ _. ⌜ now (out .exit) ≡ tabulate (byteOut sp h g w used row (now (work .entry))) w ⌝ }
+// The height grows: the Rust's export_row_expand; no work value changes. The factor is 2^31 or more for span 2 alone, which is tested for the same
+// reason.
+fn grow_row(s: RowScale, used: u32, row: u32, out: &mut [u8], work: &[u32])
+    requires { ⌜ RowAsks (scaleIn s) used row ⌝ }
+    requires { ⌜ s .h < s .g ⌝ }
+    requires { ⌜ RoomAsks (now work) (now out) (s .w) ⌝ }
+    ensures { λ _. ⌜ now (out .exit) ≡ tabulate (byteOut (scaleIn s) used row (now (work .entry))) (s .w) ⌝ }
 {
-    let d = ((used - 1) as u64 * (g - 1) as u64 - row as u64 * (h - 1) as u64) as u32;
-    let b = frac(d, g - 1);
-    let factor = frac(1, sp);
+    let d = ((used - 1) as u64 * (s.g - 1) as u64 - row as u64 * (s.h - 1) as u64) as u32;
+    let b = frac(d, s.g - 1);
+    let factor = frac(1, s.span);
+    let w = s.w;
     let at = half_of(w, used - 1);
     let newer = &work[at..at + w];
     let from = half_of(w, used);
     let older = &work[from..from + w];
-    if sp == 2 {
-        blend_lanes_any(newer, older, w, b, factor, out);
-        return;
-    }
+    let signed = s.span != 2;
     if b == 0 {
-        level_lanes(newer, w, factor, out);
+        level_lanes(newer, w, factor, signed, out);
         return;
     }
-    blend_lanes(newer, older, w, b, factor, out);
+    blend_lanes(newer, older, w, b, factor, signed, out);
+}
+
+// Makes a row of w values, whatever the lanes of its pixels. The Rust: Rescaler::export_row.
+fn make_row(s: RowScale, used: u32, row: u32, out: &mut [u8], work: &mut [u32])
+    requires { ⌜ RowAsks (scaleIn s) used row ⌝ }
+    requires { ⌜ RoomAsks (now work) (now out) (s .w) ⌝ }
+    ensures out { λ _. ⌜ now (out .exit) ≡ tabulate (byteOut (scaleIn s) used row (now (work .entry))) (s .w) ⌝ }
+    ensures work { λ _. ⌜ now (work .exit) ≡ rowLeft (scaleIn s) used row (now (work .entry)) ⌝ }
+{
+    if s.g <= s.h {
+        shrink_row(s, used, row, out, work);
+        return;
+    }
+    grow_row(s, used, row, out, work);
+}
+
+// The tests, in the order of their numbers, of an output of `out` bytes and `work` work values.
+fn check_scale(
+    crop: Dimensions,
+    target: Dimensions,
+    used: u32,
+    row: u32,
+    out: usize,
+    work: usize,
+) -> Checked
+    ensures { λ r. ⌜ checkedNumber r ≡ scaleNumber crop target used row out work ⌝ }
+{
+    if bad_size(crop) {
+        return Checked::Refused(Refusal::InvalidDimensions);
+    }
+    if bad_size(target) {
+        return Checked::Refused(Refusal::InvalidDimensions);
+    }
+    let w = PIXEL_LANES * target.width as usize;
+    if out != w {
+        return Checked::Refused(Refusal::OutputLength);
+    }
+    if work < 2 * w {
+        return Checked::Refused(Refusal::WorkLength);
+    }
+    if !due(crop.height, target.height, used, row) {
+        return Checked::Refused(Refusal::NoneReady);
+    }
+    Checked::Fit
 }
 
 // Makes output row `row` (document 01's Y) of a crop of which `used` rows came in, as lanes B, G, R, A that are not restored yet.
@@ -290,33 +280,24 @@ pub fn scale_row(
     row: u32,
     out: &mut [u8],
     work: &mut [u32],
-) -> Done
-    ensures number { λ r. ⌜ doneNumber r ≡ scaleNumber crop target used row (length (now (out .entry))) (length (now (work .entry))) ⌝ }
+) -> Checked
+    ensures number { λ r. ⌜ checkedNumber r ≡ scaleNumber crop target used row (length (now (out .entry))) (length (now (work .entry))) ⌝ }
     ensures out { λ _. ⌜ now (out .exit) ≡ scaledOut crop target used row (now (out .entry)) (now (work .entry)) ⌝ }
     ensures work { λ _. ⌜ now (work .exit) ≡ scaledWork crop target used row (length (now (out .entry))) (now (work .entry)) ⌝ }
 {
-    if bad_size(crop) {
-        return Done::Refused(Refusal::InvalidDimensions);
+    let checked = check_scale(crop, target, used, row, out.len(), work.len());
+    match checked {
+        Checked::Refused(why) => {
+            return Checked::Refused(why);
+        }
+        Checked::Fit => {}
     }
-    if bad_size(target) {
-        return Done::Refused(Refusal::InvalidDimensions);
-    }
-    let w = 4 * target.width as usize;
-    let both = 2 * w;
-    if out.len() != w {
-        return Done::Refused(Refusal::OutputLength);
-    }
-    if work.len() < both {
-        return Done::Refused(Refusal::WorkLength);
-    }
-    if !due(crop.height, target.height, used, row) {
-        return Done::Refused(Refusal::NoneReady);
-    }
-    let sp = span(crop.width, target.width);
-    if target.height <= crop.height {
-        shrink_row(sp, crop.height, target.height, used, row, w, out, work);
-        return Done::Done;
-    }
-    grow_row(sp, crop.height, target.height, used, row, w, out, work);
-    Done::Done
+    let s = RowScale {
+        span: span(crop.width, target.width),
+        h: crop.height,
+        g: target.height,
+        w: PIXEL_LANES * target.width as usize,
+    };
+    make_row(s, used, row, out, work);
+    Checked::Fit
 }

@@ -1,6 +1,6 @@
--- `blend_lanes` meets its contract: each turn stores the byte of the two values blended; the factor is below 2^31. Assumes nothing.
-use Rattle.rows_scaling.proofs.Clamps.{MULT-half}
-use Rattle.rows_scaling.proofs.Grows.{Grown, grow-first, grow-turn}
+-- `blend_lanes` meets its contract: each turn stores the byte of the two values blended; the factor fits the signed tests where they are used. Assumes nothing.
+use Rattle.rows_scaling.proofs.Clamp.{MULT-halved}
+use Rattle.rows_scaling.proofs.BlendLanes.{Grown, grow-first, grow-turn}
 use Rattle.arithmetic.proofs.Stores.{same, filled}
 use native.Mathlib.Omega.{arith}
 use mathlib.Core.Path.{_≡_}
@@ -10,10 +10,10 @@ use Rattle.rows_scaling.proofs.blend_lanes.Statement.{statement}
 use Rattle.rows_scaling.proofs.blend_lanes.Tie as tie
 
 abbrev Inv-loop : tie.InvT-loop
-Inv-loop newer older w b factor out₀ a k₀ out k = (a + b ≡ 2 ^ 32) × Grown b factor newer older out₀ out w k
+Inv-loop newer older w b factor signed out₀ a k₀ out k = (a + b ≡ 2 ^ 32) × Grown b factor newer older out₀ out w k
 
 abbrev μ-loop : tie.MeasureT-loop
-μ-loop newer older w b factor out₀ a k₀ out k = w - k
+μ-loop newer older w b factor signed out₀ a k₀ out k = w - k
 
 sub-a : tie.Need-sub-a Inv-loop μ-loop
 sub-a c = search needs
@@ -46,7 +46,7 @@ mult-fix-requires c κs = search needs
 
 byte-of-requires : tie.Need-byte-of-requires Inv-loop μ-loop
 byte-of-requires c κs =
-    rw (c .mult-fix .ensures) (MULT-half (c .before .blended .ok) (c .before .before .before .before .before .before .before .before .before .pre .1 .1))
+    MULT-halved (c .before .before .before .before .before .before .before .before .before .pre .1 .1) (c .before .blended .ok) (c .mult-fix .ensures)
 
 slice-write-out : tie.Need-slice-write-out Inv-loop μ-loop
 slice-write-out c = omega (arith, same (c .before .before .before .before .before .before .loop .inv .1 .bytes))

@@ -5,7 +5,7 @@ use native.Mathlib.Numerals.{add-one}
 use native.Mathlib.Omega.{arith}
 use Rattle.arithmetic.proofs.Products.{most}
 use Rattle.rows_scaling.specs.Scaling.{within}
-use Rattle.rows_scaling.proofs.Dues.{due-down, due-none, due-up, row-most}
+use Rattle.rows_scaling.proofs.DueRow.{due-down, due-none, due-up, row-most}
 use borrow.Author.Needs.{needs}
 use Rattle.rows_scaling.proofs.due.Statement.{statement}
 use Rattle.rows_scaling.proofs.due.Tie as tie

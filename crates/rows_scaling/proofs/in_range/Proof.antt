@@ -1,6 +1,6 @@
 -- `in_range` meets its contract: past the test the difference fits, and is below room where x is below from + room. Assumes nothing.
 use mathlib.Core.Path.{sym}
-use Rattle.rows_scaling.proofs.Dues.{range-before, range-test}
+use Rattle.rows_scaling.proofs.DueRow.{range-before, range-test}
 use Rattle.rows_scaling.proofs.in_range.Statement.{statement}
 use Rattle.rows_scaling.proofs.in_range.Tie as tie
 

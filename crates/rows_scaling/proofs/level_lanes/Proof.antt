@@ -1,6 +1,6 @@
--- `level_lanes` meets its contract: each turn stores the byte of the newer value; the factor is below 2^31. Assumes nothing.
-use Rattle.rows_scaling.proofs.Clamps.{MULT-half}
-use Rattle.rows_scaling.proofs.Grows.{Grown, grow-first, level-turn}
+-- `level_lanes` meets its contract: each turn stores the byte of the newer value; the factor fits the signed tests where they are used. Assumes nothing.
+use Rattle.rows_scaling.proofs.Clamp.{MULT-halved}
+use Rattle.rows_scaling.proofs.BlendLanes.{Grown, grow-first, level-turn}
 use Rattle.arithmetic.proofs.Stores.{same, filled}
 use native.Mathlib.Omega.{arith}
 use Prim.Native.Nat.{_-_}
@@ -9,10 +9,10 @@ use Rattle.rows_scaling.proofs.level_lanes.Statement.{statement}
 use Rattle.rows_scaling.proofs.level_lanes.Tie as tie
 
 abbrev Inv-loop : tie.InvT-loop
-Inv-loop newer w factor out₀ k₀ out k = Grown 0 factor newer newer out₀ out w k
+Inv-loop newer w factor signed out₀ k₀ out k = Grown 0 factor newer newer out₀ out w k
 
 abbrev μ-loop : tie.MeasureT-loop
-μ-loop newer w factor out₀ k₀ out k = w - k
+μ-loop newer w factor signed out₀ k₀ out k = w - k
 
 loop-holds : tie.Need-loop-holds Inv-loop μ-loop
 loop-holds c = grow-first 0 (c .before .before .args .factor) (c .before .before .pre .0)
@@ -29,7 +29,7 @@ mult-fix-requires c κs = search needs
 byte-of-requires : tie.Need-byte-of-requires Inv-loop μ-loop
 byte-of-requires c κs =
     let b = c .before .before .before in
-    rw (c .mult-fix .ensures) (MULT-half (c .before .shared-slice-known2 .given (b .loop .k) .fits) (b .before .before .before .pre .1))
+    MULT-halved (b .before .before .before .pre .1) (c .before .shared-slice-known2 .given (b .loop .k) .fits) (c .mult-fix .ensures)
 
 slice-write-out : tie.Need-slice-write-out Inv-loop μ-loop
 slice-write-out c = omega (arith, same (c .before .before .before .before .loop .inv .bytes))

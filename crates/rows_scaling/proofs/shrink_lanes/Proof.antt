@@ -1,6 +1,6 @@
 -- `shrink_lanes` meets its contract: each turn stores f and the byte that it leaves; the ratio is below 2^31, so the byte is clamped by signed tests. Assumes nothing.
-use Rattle.rows_scaling.proofs.Clamps.{MULT-half}
-use Rattle.rows_scaling.proofs.Shrinks.{Shrunk, shrink-first, shrink-turn}
+use Rattle.rows_scaling.proofs.Clamp.{MULT-halved}
+use Rattle.rows_scaling.proofs.ShrinkLanes.{Shrunk, shrink-first, shrink-turn}
 use Rattle.arithmetic.proofs.Stores.{same, all-stored, filled}
 use native.Mathlib.Omega.{arith}
 use Prim.Native.Nat.{_-_}
@@ -9,10 +9,10 @@ use Rattle.rows_scaling.proofs.shrink_lanes.Statement.{statement}
 use Rattle.rows_scaling.proofs.shrink_lanes.Tie as tie
 
 abbrev Inv-loop : tie.InvT-loop
-Inv-loop work₀ w step q out₀ k₀ work out k = Shrunk step q w work₀ out₀ work out k
+Inv-loop work₀ w step q signed out₀ k₀ work out k = Shrunk step q w work₀ out₀ work out k
 
 abbrev μ-loop : tie.MeasureT-loop
-μ-loop work₀ w step q out₀ k₀ work out k = w - k
+μ-loop work₀ w step q signed out₀ k₀ work out k = w - k
 
 loop-holds : tie.Need-loop-holds Inv-loop μ-loop
 loop-holds c = shrink-first (c .before .before .args .step) (c .before .before .args .q) (c .before .before .pre .0)
@@ -43,8 +43,7 @@ mult-fix-requires c κs = search needs
 
 byte-of-requires : tie.Need-byte-of-requires Inv-loop μ-loop
 byte-of-requires c κs =
-    rw (c .mult-fix .ensures)
-    (MULT-half (c .before .wrapping-sub-u32 .ok) (c .before .before .before .before .before .before .before .before .before .pre .1))
+    MULT-halved (c .before .before .before .before .before .before .before .before .before .pre .1) (c .before .wrapping-sub-u32 .ok) (c .mult-fix .ensures)
 
 slice-write-out : tie.Need-slice-write-out Inv-loop μ-loop
 slice-write-out c = omega (arith, same (c .before .before .before .before .before .before .before .loop .inv .bytes))

@@ -1,5 +1,5 @@
 -- `take_lanes` meets its contract: each turn stores the low byte and a 0. Assumes nothing.
-use Rattle.rows_scaling.proofs.Shrinks.{Taken, take-first, take-turn}
+use Rattle.rows_scaling.proofs.ShrinkLanes.{Taken, take-first, take-turn}
 use Rattle.arithmetic.proofs.Stores.{same, all-stored, filled}
 use native.Mathlib.Omega.{arith}
 use Prim.Native.Nat.{_-_}

@@ -8,7 +8,7 @@ use Rattle.arithmetic.specs.Word.{wrapSub}
 use Rattle.arithmetic.specs.FixedPoint.{MULT, FLOOR}
 use Rattle.arithmetic.proofs.Words.{wrapSub-is}
 use Rattle.rows.specs.Output.{clamp}
-use Rattle.rows_scaling.specs.Export.{ShrinkAsks, shrinkLeft, shrinkByte, lowByte}
+use Rattle.rows_scaling.specs.Inner.Scaling.{RoomAsks, shrinkLeft, shrinkByte, lowByte}
 use Rattle.arithmetic.proofs.Stores.{Stored, none-stored, store, ahead}
 
 -- both lists, k turns on
@@ -16,7 +16,7 @@ pub record Shrunk (step q w : ℕ) (work₀ out₀ work out : List ℕ) (k : ℕ
   pub left : Stored (shrinkLeft step w work₀) work₀ work w k
   pub bytes : Stored (shrinkByte step q w work₀) out₀ out w k
 
-pub shrink-first : (step q : ℕ) {w : ℕ} {work out : List ℕ} → ShrinkAsks work out w → Shrunk step q w work out work out 0
+pub shrink-first : (step q : ℕ) {w : ℕ} {work out : List ℕ} → RoomAsks work out w → Shrunk step q w work out work out 0
 shrink-first step q {w} {work} {out} a =
     record { left = none-stored (shrinkLeft step w work) (omega arith); bytes = none-stored (shrinkByte step q w work) (omega arith) }
 
@@ -41,7 +41,7 @@ pub record Taken (w : ℕ) (work₀ out₀ work out : List ℕ) (k : ℕ) : Type
   pub left : Stored (λ x. 0) work₀ work w k
   pub bytes : Stored (lowByte work₀) out₀ out w k
 
-pub take-first : {w : ℕ} {work out : List ℕ} → ShrinkAsks work out w → Taken w work out work out 0
+pub take-first : {w : ℕ} {work out : List ℕ} → RoomAsks work out w → Taken w work out work out 0
 take-first {w} {work} {out} a =
     record { left = none-stored (λ x. 0) (omega arith); bytes = none-stored (lowByte work) (omega arith) }
 

@@ -5,8 +5,8 @@ use mathlib.Core.List.{List}
 use native.Mathlib.Omega.{arith}
 use lib.ListN.{length, getD, set}
 use Rattle.arithmetic.specs.FixedPoint.{MULT}
-use Rattle.rows.specs.Output.{clamp}
-use Rattle.rows_scaling.specs.Export.{GrowAsks, mixed, growByte}
+use Rattle.rows.specs.Output.{clamp, mixed}
+use Rattle.rows_scaling.specs.Inner.Scaling.{GrowAsks, growByte}
 use Rattle.arithmetic.proofs.Stores.{Stored, none-stored, store}
 use Rattle.rows_scaling.proofs.Factors.{mixed-none}
 

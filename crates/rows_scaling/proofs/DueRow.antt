@@ -11,18 +11,17 @@ use Rattle.arithmetic.proofs.Orders.{le-or-lt}
 use Rattle.arithmetic.specs.Quotient.{ceil}
 use Rattle.arithmetic.proofs.Quotients.{ceil-low, ceil-high, ceil-is}
 use Rattle.rows_schedule.specs.Schedule.{needed}
+use Rattle.pixels.proofs.Truths.{both-true}
+use Rattle.rows.specs.WorkRows.{Scale}
 use Rattle.rows_scaling.specs.Scaling.{within, due}
-
-both : (a b : Bool) → (a && b) ≡ true → (a ≡ true) × (b ≡ true)
-both true b e = (refl, e)
-both false b e = absurd (true≢false (sym e))
+use Rattle.rows_scaling.specs.Inner.Scaling.{RowAsks}
 
 -- ---- a range
 pub range-low : (x from room : ℕ) → within x from room ≡ true → from ≤ x
-range-low x from room e = leb-true from x (both (leb from x) (ltb x (from + room)) e .0)
+range-low x from room e = leb-true from x (both-true (leb from x) (ltb x (from + room)) e .0)
 
 pub range-high : (x from room : ℕ) → within x from room ≡ true → x < from + room
-range-high x from room e = ltb-true x (from + room) (both (leb from x) (ltb x (from + room)) e .1)
+range-high x from room e = ltb-true x (from + room) (both-true (leb from x) (ltb x (from + room)) e .1)
 
 pub range-before : (x from room : ℕ) → x < from → within x from room ≡ false
 range-before x from room h = simp (lt-leb from x h)
@@ -52,6 +51,31 @@ due-up h g u y l p = simp (lt-leb g h l, lt-ltb 0 u p)
 pub due-some : (h g u y : ℕ) → h < g → due h g u y ≡ true → 1 ≤ u
 due-some h g u y l e =
     ⊎-elim (λ z. absurd (true≢false (sym e ∙ due-none h g u y l (omega arith)))) (λ p. p) (le-or-lt u 0)
+
+-- ---- what a row that is due tells of d
+module _ {s : Scale} {u y : ℕ} (a : RowAsks s u y) where
+  module _ (l : s .g ≤ s .h) where
+    down : within (u * s .g) (suc y * s .h) (s .g) ≡ true
+    down = sym (due-down (s .h) (s .g) u y l) ∙ a .ready
+
+    pub down-low : suc y * s .h ≤ u * s .g
+    down-low = range-low (u * s .g) (suc y * s .h) (s .g) down
+
+    pub down-high : u * s .g < suc y * s .h + s .g
+    down-high = range-high (u * s .g) (suc y * s .h) (s .g) down
+
+  module _ (l : s .h < s .g) where
+    pub up-some : 1 ≤ u
+    up-some = due-some (s .h) (s .g) u y l (a .ready)
+
+    up : within ((u - 1) * (s .g - 1)) (y * (s .h - 1)) (s .g - 1) ≡ true
+    up = sym (due-up (s .h) (s .g) u y l up-some) ∙ a .ready
+
+    pub up-low : y * (s .h - 1) ≤ (u - 1) * (s .g - 1)
+    up-low = range-low ((u - 1) * (s .g - 1)) (y * (s .h - 1)) (s .g - 1) up
+
+    pub up-high : (u - 1) * (s .g - 1) < y * (s .h - 1) + (s .g - 1)
+    up-high = range-high ((u - 1) * (s .g - 1)) (y * (s .h - 1)) (s .g - 1) up
 
 -- ---- the crop rows that row y needs are those for which it is due, and no others
 needed-down : (h g y : ℕ) → g ≤ h → needed h g y ≡ ceil (suc y * h) g

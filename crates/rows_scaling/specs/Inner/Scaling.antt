@@ -1,39 +1,41 @@
--- What the loops of src/export.rt are asked and what they write, a row of w values at a time. The public promises are those of Output and WorkRows;
--- these are the same bytes with the factors of the row already found. Assumes nothing.
-use Prim.Native.Nat.{ℕ, suc, _+_, _-_, _*_, _/_, _%_, _^_, _≤_, _<_}
+-- What the private functions of src/lib.rt are asked and what they write, a row of w values at a time: the bytes of Output and WorkRows with the
+-- factors of the row already found. The public promises are those of Scaling. Assumes nothing.
+use Prim.Native.Nat.{ℕ, _+_, _-_, _*_, _/_, _%_, _^_, _≤_, _<_}
 use mathlib.Core.Path.{_≡_}
-use mathlib.Core.Bool.{true}
+use mathlib.Core.Bool.{Bool, true}
 use mathlib.Core.List.{List}
 use lib.ListN.{length, getD}
 use Rattle.arithmetic.specs.Word.{wrapSub}
 use Rattle.arithmetic.specs.FixedPoint.{MULT, FLOOR}
 use Rattle.rows.specs.Output.{clamp, mixed}
-use Rattle.rows_scaling.specs.Scaling.{within}
+use Rattle.rows.specs.WorkRows.{Scale}
+use Rattle.rows_scaling.specs.declared.RowScale.{RowScale}
+use Rattle.rows_scaling.specs.Scaling.{due}
+
+-- what the code's record says
+abbrev pub scaleIn : RowScale → Scale
+scaleIn s = record { span = s .span; h = s .h; g = s .g; w = s .w }
+
+-- a row that is due
+pub record RowAsks (s : Scale) (u y : ℕ) : Type 0 where
+  pub span-some : 1 ≤ s .span
+  pub h-some : 1 ≤ s .h
+  pub ready : due (s .h) (s .g) u y ≡ true
 
 -- two halves of w values in the work rows, w bytes of output
-pub record ShrinkAsks (work out : List ℕ) (w : ℕ) : Type 0 where
+pub record RoomAsks (work out : List ℕ) (w : ℕ) : Type 0 where
   pub halves : w + w ≤ length work
   pub exact : length out ≡ w
-
--- a height that does not grow, and d in its range
-pub record DownAsks (span h g u y : ℕ) : Type 0 where
-  pub span-some : 1 ≤ span
-  pub h-some : 1 ≤ h
-  pub down : g ≤ h
-  pub due : within (u * g) (suc y * h) g ≡ true
-
--- a height that grows, and d in its range
-pub record UpAsks (h g u y : ℕ) : Type 0 where
-  pub h-some : 1 ≤ h
-  pub up : h < g
-  pub used-some : 1 ≤ u
-  pub due : within ((u - 1) * (g - 1)) (y * (h - 1)) (g - 1) ≡ true
 
 -- the newer and the older half, w bytes of output
 pub record GrowAsks (newer older out : List ℕ) (w : ℕ) : Type 0 where
   pub newer-whole : length newer ≡ w
   pub older-whole : length older ≡ w
   pub exact : length out ≡ w
+
+-- where the signed tests are used, the number fits them
+abbrev pub Halved : Bool → ℕ → Type 0
+Halved signed n = signed ≡ true → n < 2 ^ 31
 
 -- f of place x, step being FRAC(1,g)×d mod 2^32
 unfoldable pub shrinkLeft : ℕ → ℕ → List ℕ → ℕ → ℕ
