@@ -251,23 +251,24 @@ fn blend(left: u32, right: u32, keep: u32, rest: u32) -> u32
     wrapping_add_u32(wrapping_mul(left, keep), wrapping_mul(right, rest))
 }
 
-fn blend4(left: Quad, right: Quad, keep: u32, rest: u32) -> Quad
-    ensures { λ r. ⌜ Four (λ k. at r k ≡ wrapAdd (wrapMul (at left k) keep) (wrapMul (at right k) rest)) ⌝ }
-{
-    Quad {
-        a: blend(left.a, right.a, keep, rest),
-        b: blend(left.b, right.b, keep, rest),
-        c: blend(left.c, right.c, keep, rest),
-        d: blend(left.d, right.d, keep, rest),
-    }
-}
-
 // Where an output column stands between two pixels: left is pixel x, right the next, and acc of span parts are the left's.
 struct Stand {
     left: Quad,
     right: Quad,
     x: usize,
     acc: u32,
+}
+
+// Both pixels' parts, lane by lane; `rest` of the parts are the right's.
+fn blend4(s: Stand, rest: u32) -> Quad
+    ensures { λ r. ⌜ Four (λ k. at r k ≡ wrapAdd (wrapMul (at (s .left) k) (s .acc)) (wrapMul (at (s .right) k) rest)) ⌝ }
+{
+    Quad {
+        a: blend(s.left.a, s.right.a, s.acc, rest),
+        b: blend(s.left.b, s.right.b, s.acc, rest),
+        c: blend(s.left.c, s.right.c, s.acc, rest),
+        d: blend(s.left.d, s.right.d, s.acc, rest),
+    }
 }
 
 // The pixel to the right of the first; of one pixel, itself: no pixel past the crop is read.
@@ -282,27 +283,23 @@ fn second(n: usize) -> usize
 }
 
 // One column on: by `step` of the parts, into the next pixel where the left one has fewer.
-fn advance(row: &[u8], span: u32, step: u32, s: Stand, p: Places) -> Stand
+fn advance(row: &[u8], span: u32, step: u32, mut s: Stand, p: Places) -> Stand
     requires { ⌜ AdvanceAsks (now row) (length (now row) / pixelLanes) span step (s .left) (s .right) (s .x) (s .acc) p ⌝ }
     ensures { λ r. ⌜ Advances (now (row .entry)) (length (now (row .entry)) / pixelLanes) span step p (s .x) (s .acc) (r .left) (r .right) (r .x) (r .acc) ⌝ }
 {
-    let right = s.right;
-    if s.acc < step {
-        let next = s.x + 2;
+    let acc = s.acc;
+    if acc < step {
+        let left = s.right;
+        let x = s.x + 1;
         return Stand {
-            left: right,
-            right: read_lanes(row, next, p),
-            x: s.x + 1,
-            acc: s.acc + span - step,
+            left,
+            right: read_lanes(row, x + 1, p),
+            x,
+            acc: acc + span - step,
         };
     }
-    let left = s.left;
-    Stand {
-        left,
-        right,
-        x: s.x,
-        acc: s.acc - step,
-    }
+    s.acc = acc - step;
+    s
 }
 
 // Every column where the width grows.
@@ -325,9 +322,7 @@ fn grow_row(row: &[u8], n: usize, m: usize, p: Places, half: &mut [u32])
     let mut j = 0usize;
     while j < m {
         s = advance(row, span, step, s, p);
-        let l = s.left;
-        let r = s.right;
-        let v = blend4(l, r, s.acc, span - s.acc);
+        let v = blend4(s, span - s.acc);
         put4(half, j, v);
         j += 1;
     }

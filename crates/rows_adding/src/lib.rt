@@ -1,16 +1,15 @@
-// A crop row that came in is added to the rows before it (document 01, "A row comes in"; the Rust: the accumulation of Rescaler::import_row).
+// A crop row that came in is added to the rows before it (document 01, "A row comes in"; the Rust: the accumulation of Rescaler::import).
+use pixels::Checked;
+use pixels::PIXEL_LANES;
 use pixels::Refusal;
 use pixels::bad_side;
-use rows::Done;
 use std::num::wrapping_add_u32;
 ghost use mathlib.Core.Path.{_≡_};
 ghost use Prim.Native.Nat.{_+_, _≤_};
 ghost use lib.ListN.{length};
-ghost use Rattle.pixels.specs.Sizes.{pixelLanes, halfValues};
-ghost use Rattle.pixels.specs.Refusals.{bufferIf};
-ghost use Rattle.rows.specs.Done.{doneNumber};
+ghost use Rattle.pixels.specs.Refusals.{checkedNumber};
 ghost use Rattle.rows.specs.WorkRows.{added};
-ghost use Rattle.rows_adding.specs.Adding.{addNumber};
+ghost use Rattle.rows_adding.specs.Adding.{addNumber, addWork};
 
 fn add_to_first(work: &mut [u32], w: usize)
     requires { ⌜ w + w ≤ length (now work) ⌝ }
@@ -23,19 +22,31 @@ fn add_to_first(work: &mut [u32], w: usize)
     }
 }
 
-// The second half added to the first, modulo 2^32; the second stays.
-// Rules out: a sum that saturates; the last value left out; the sum put into the second half.
-pub fn add_halves(target_width: u32, work: &mut [u32]) -> Done
-    ensures number { λ r. ⌜ doneNumber r ≡ addNumber «target_width» (length (now (work .entry))) ⌝ }
-    ensures work { λ _. ⌜ now (work .exit) ≡ bufferIf (addNumber «target_width» (length (now (work .entry)))) (added (halfValues pixelLanes «target_width») (now (work .entry))) (now (work .entry)) ⌝ }
+// The tests, in the order of document 01's table.
+fn check_add(target_width: u32, room: usize) -> Checked
+    ensures { λ r. ⌜ checkedNumber r ≡ addNumber «target_width» room ⌝ }
 {
     if bad_side(target_width as u64) {
-        return Done::Refused(Refusal::InvalidDimensions);
+        return Checked::Refused(Refusal::InvalidDimensions);
     }
-    let w = 4 * target_width as usize;
-    if work.len() < 2 * w {
-        return Done::Refused(Refusal::WorkLength);
+    if room < 2 * (PIXEL_LANES * target_width as usize) {
+        return Checked::Refused(Refusal::WorkLength);
     }
-    add_to_first(work, w);
-    Done::Done
+    Checked::Fit
+}
+
+// The second half added to the first, modulo 2^32; the second stays.
+// Rules out: a sum that saturates; the last value left out; the sum put into the second half.
+pub fn add_halves(target_width: u32, work: &mut [u32]) -> Checked
+    ensures number { λ r. ⌜ checkedNumber r ≡ addNumber «target_width» (length (now (work .entry))) ⌝ }
+    ensures work { λ _. ⌜ now (work .exit) ≡ addWork «target_width» (now (work .entry)) ⌝ }
+{
+    let checked = check_add(target_width, work.len());
+    match checked {
+        Checked::Refused(why) => Checked::Refused(why),
+        Checked::Fit => {
+            add_to_first(work, PIXEL_LANES * target_width as usize);
+            Checked::Fit
+        }
+    }
 }

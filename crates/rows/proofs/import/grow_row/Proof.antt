@@ -117,58 +117,81 @@ abbrev μ-loop : tie.MeasureT-loop
 μ-loop row n m p half₀ span step beside s₀ j₀ half s j = m - j
 
 sub-span : tie.Need-sub-span Inv-loop μ-loop
-sub-span c = omega (arith, (c .before .before .pre) .0 .m-pos)
+sub-span c = omega (arith, c .before .before .pre .0 .m-pos)
 
 cast-span : tie.Need-cast-span Inv-loop μ-loop
-cast-span c = omega (arith, (c .before .before .pre) .0 .m-small)
+cast-span c = omega (arith, c .before .before .pre .0 .m-small)
 
 sub-step : tie.Need-sub-step Inv-loop μ-loop
-sub-step c = omega (arith, (c .before .before .pre) .0 .n-pos)
+sub-step c = omega (arith, c .before .before .pre .0 .n-pos)
 
 cast-step : tie.Need-cast-step Inv-loop μ-loop
-cast-step c = omega (arith, (c .before .before .pre) .0 .n-small)
+cast-step c = omega (arith, c .before .before .pre .0 .n-small)
 
 read-lanes-requires : tie.Need-read-lanes-requires Inv-loop μ-loop
-read-lanes-requires c κs = (pixel 0 ((c .before .before .pre) .0) ((c .before .before .pre) .0 .n-pos), (c .before .before .pre) .0 .places)
+read-lanes-requires c κs = let a = c .before .before .pre .0 in (pixel 0 a (a .n-pos), a .places)
 
 second-requires : tie.Need-second-requires Inv-loop μ-loop
-second-requires c κs = (c .before .before .before .pre) .0 .n-pos
+second-requires c κs = c .before .before .before .pre .0 .n-pos
 
 read-lanes-requires-2 : tie.Need-read-lanes-requires-2 Inv-loop μ-loop
-read-lanes-requires-2 c κs = (pixel _ ((c .before .before .before .before .pre) .0) ((c .second) .ensures .inside), (c .before .before .before .before .pre) .0 .places)
+read-lanes-requires-2 c κs = let a = c .before .before .before .before .pre .0 in (pixel _ a (c .second .ensures .inside), a .places)
 
-add-t17 : tie.Need-add-t17 Inv-loop μ-loop
-add-t17 c = omega (arith, (c .before .before .before .before .before .pre) .0 .n-small, (c .before .before .before .before .before .pre) .0 .m-small)
+add-t15 : tie.Need-add-t15 Inv-loop μ-loop
+add-t15 c =
+    let a = c .before .before .before .before .before .pre .0 in
+    omega (arith, a .n-small, a .m-small)
 
 loop-holds : tie.Need-loop-holds Inv-loop μ-loop
-loop-holds c = first ((c .before .before .before .before .before .pre) .0) ((c .before .second) .ensures) ((c .before .before .read-lanes) .ensures) ((c .read-lanes2) .ensures)
+loop-holds c =
+    first (c .before .before .before .before .before .pre .0) (c .before .second .ensures) (c .before .before .read-lanes .ensures) (c .read-lanes2 .ensures)
 
 advance-requires : tie.Need-advance-requires Inv-loop μ-loop
-advance-requires c κs = asks ((c .before .before .before .before .before .before .before .pre) .0) ((c .before .before .before .before .before .before .before .pre) .1) ((c .before .loop) .inv) ((c .loop-test) .taken)
+advance-requires c κs =
+    let pre = c .before .before .before .before .before .before .before .pre in
+    asks (pre .0) (pre .1) (c .before .loop .inv) (c .loop-test .taken)
 
 sub-blend4 : tie.Need-sub-blend4 Inv-loop μ-loop
-sub-blend4 c = rest ((c .before .before .before .before .before .before .before .before .before .before .before .pre) .0) ((c .before .before .before .before .before .before .before .before .before .before .before .pre) .1) ((c .before .before .before .before .before .loop) .inv) ((c .before .before .before .advance) .ensures)
+sub-blend4 c =
+    let b = c .before .before .before in
+    let pre = b .before .before .before .before .before .before .pre in
+    rest (pre .0) (pre .1) (b .loop .inv) (c .before .advance .ensures)
 
 blend4-requires : tie.Need-blend4-requires Inv-loop μ-loop
 blend4-requires c κs = tt
 
 put4-requires : tie.Need-put4-requires Inv-loop μ-loop
-put4-requires c κs = (let a = (c .before .before .before .before .before .before .before .before .before .before .before .before .before .pre) .0 in omega (arith, same ((c .before .before .before .before .before .before .before .before .before .before .before .before .before .pre) .0) ((c .before .before .before .before .before .before .before .before .before .before .before .before .before .pre) .1) ((c .before .before .before .before .before .before .before .loop) .inv), a .room, a .m-small, (c .before .before .before .before .before .before .loop-test) .taken))
+put4-requires c κs =
+    let t = c .before .before .before .before in
+    let pre = t .before .before .before .before .before .before .before .pre in
+    omega (arith, same (pre .0) (pre .1) (t .before .loop .inv), pre .0 .room, pre .0 .m-small, t .loop-test .taken)
 
 add-j : tie.Need-add-j Inv-loop μ-loop
-add-j c = (let a = (c .before .before .before .before .before .before .before .before .before .before .before .before .before .before .before .before .pre) .0 in omega (arith, a .m-small, (c .before .before .before .before .before .before .before .before .before .loop-test) .taken))
+add-j c =
+    let t = c .before .before .before .before .before .before .before in
+    let pre = t .before .before .before .before .before .before .before .pre in
+    omega (arith, pre .0 .m-small, t .loop-test .taken)
 
 loop-less : tie.Need-loop-less Inv-loop μ-loop
-loop-less c = omega (arith, (c .before .before .before .before .before .before .before .before .before .loop-test) .taken)
+loop-less c = omega (arith, c .before .before .before .before .before .before .before .loop-test .taken)
 
 loop-again : tie.Need-loop-again Inv-loop μ-loop
-loop-again c = turn ((c .before .before .before .before .before .before .before .before .before .before .before .before .before .before .before .before .pre) .0) ((c .before .before .before .before .before .before .before .before .before .before .before .before .before .before .before .before .pre) .1) ((c .before .before .before .before .before .before .before .before .before .before .loop) .inv) ((c .before .before .before .before .before .before .before .before .advance) .ensures) ((c .before .before .before .before .blend4) .result) ((c .before .before .before .before .before .before .before .before .before .loop-test) .taken) ((c .before .before .before .before .blend4) .ensures) ((c .before .before .put4) .last .0) ((c .before .before .put4) .ensures)
+loop-again c =
+    let v = c .before .before .before .before in
+    let t = v .before .before .before in
+    let pre = t .before .before .before .before .before .before .before .pre in
+    turn (pre .0) (pre .1) (t .before .loop .inv) (v .before .before .advance .ensures) (v .blend4 .result) (t .loop-test .taken)
+    (v .blend4 .ensures) (c .before .before .put4 .last .0) (c .before .before .put4 .ensures)
 
 same-length : tie.Need-same-length Inv-loop μ-loop
-same-length c = same ((c .before .before .before .before .before .before .before .pre) .0) ((c .before .before .before .before .before .before .before .pre) .1) ((c .before .loop) .inv)
+same-length c =
+    let pre = c .before .before .before .before .before .before .before .pre in
+    same (pre .0) (pre .1) (c .before .loop .inv)
 
 returns : tie.Need-returns Inv-loop μ-loop
-returns c = done ((c .before .before .before .before .before .before .before .pre) .0) ((c .before .before .before .before .before .before .before .pre) .1) ((c .before .loop) .inv) ((c .loop-test) .left)
+returns c =
+    let pre = c .before .before .before .before .before .before .before .pre in
+    done (pre .0) (pre .1) (c .before .loop .inv) (c .loop-test .left)
 
 pub grow-row-spec : {M : Type 1} → statement M
 grow-row-spec =
@@ -183,7 +206,7 @@ grow-row-spec =
     read-lanes-requires
     second-requires
     read-lanes-requires-2
-    add-t17
+    add-t15
     loop-holds
     advance-requires
     sub-blend4
