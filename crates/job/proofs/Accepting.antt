@@ -9,12 +9,14 @@ use native.Mathlib.Nat.{div-add-mod, mul-le-mul-left, le-trans}
 use native.Mathlib.Numerals.{add-one}
 use lib.ListN.{length, take, drop, length-drop}
 use lib.Seq.{length-take-le}
-use Rattle.pixels.specs.Sizes.{pixelLanes, rowBytes, workValues}
+use Rattle.pixels.specs.Sizes.{rowBytes, workValues}
 use Rattle.pixels_crop.specs.Crop.{pictureRow}
+use Rattle.pixels_crop.proofs.Windows.{row-part}
 use Rattle.rows_schedule.proofs.Crop.{rows-le}
 use Rattle.job.specs.declared.Plan.{Plan}
 use Rattle.job.specs.declared.Job.{Job}
 use Rattle.job.specs.Record.{lanesOf, R, Rules}
+use Rattle.job.specs.Inner.{RowAsks}
 use Rattle.job.specs.Calls.{lentRows, mostRows, count, rowAccepted, fed, offerNumber}
 use Rattle.job.proofs.Counting.{counted-is}
 use Rattle.job.proofs.Views.{OfferWent, offer-went}
@@ -72,17 +74,25 @@ module _ (j : Job) (rows before : List ℕ) (most : ℕ) (goes : offerNumber j (
       }
 
   module _ (work : List ℕ) (i : ℕ) (a : Accepting j rows before most work i) where
-    pub in-lent : stride * i + stride ≤ length rows
-    in-lent =
+    whole-row : stride * i + stride ≤ length rows
+    whole-row =
         let l : suc i ≤ lentRows (j .plan) (length rows) = omega (arith, a .left) in
         omega (arith, lent, mul-le-mul-left stride l)
 
-    pub row-long : length (pictureRow (lanesOf (j .plan)) rows (j .plan .source .width) i) ≡ stride
+    picture-row-long : length (pictureRow (lanesOf (j .plan)) rows (j .plan .source .width) i) ≡ stride
     unfolding pictureRow
-    row-long = length-take-le stride (drop (stride * i) rows) (simp length-drop (omega (arith, in-lent)))
+    picture-row-long = length-take-le stride (drop (stride * i) rows) (simp length-drop (omega (arith, whole-row)))
 
-    pub room : workValues (lanesOf (j .plan)) (j .plan .target .width) ≤ length work
-    room = omega (arith, o .room, a .long)
+    -- the next row as the code lends it, s being what it has for the length of a row
+    module _ (s : ℕ) (s-is : s ≡ stride) where
+      pub in-lent : s * i + s ≤ length rows
+      in-lent = rw s-is whole-row
+
+      pub lent-row : take (s * i + s - s * i) (drop (s * i) rows) ≡ pictureRow (lanesOf (j .plan)) rows (j .plan .source .width) i
+      lent-row = rw s-is (row-part (lanesOf (j .plan)) rows (j .plan .source .width) i)
+
+      pub lent-asks : RowAsks (j .plan) (take (s * i + s - s * i) (drop (s * i) rows)) work
+      lent-asks = record { fits = o .rules .sizes; long = ap length lent-row ∙ picture-row-long; room = omega (arith, o .room, a .long) }
 
     pub in-range : j .accepted + i < 16384
     in-range = omega (arith, a .left, o .rules .sizes .source-height .most)

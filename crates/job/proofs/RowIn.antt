@@ -9,7 +9,7 @@ use native.Mathlib.Omega.{arith}
 use lib.Dec.{eqb, leb}
 use lib.ListN.{length, take, drop, length-append, length-take, length-drop, drop-of-length-le}
 use lib.Seq.{take-all}
-use borrow.Author.Tests.{le-leb, lt-leb, lt-ltb, le-ltb}
+use borrow.Author.Tests.{le-leb, lt-leb, lt-ltb, le-ltb, eq-eqb, ne-eqb}
 use Rattle.arithmetic.proofs.Tables.{length-tabulate}
 use Rattle.pixels.specs.Sizes.{rowBytes, halfValues, workValues, Fits}
 use Rattle.pixels_crop.specs.Crop.{windowOf}
@@ -35,6 +35,20 @@ module _ (xs : List ℕ) (a : ℕ) where
 
   back : (ys : List ℕ) → take a xs ++ (ys ++ drop (length xs - a) (drop a xs)) ≡ take a xs ++ ys
   back ys = rw (drop-of-length-le (drop a xs) short, append-nil)
+
+-- ---- the place of the half that crop row c goes to
+module _ (p : Plan) (c : ℕ) where
+  abbrev half : ℕ
+  half = halfValues (lanesOf p) (p .target .width)
+
+  pub half-second : p .target .height ≤ p .crop .height → cond (leb (p .target .height) (p .crop .height)) half (halfOf half c) ≡ half
+  half-second l = simp (le-leb (p .target .height) (p .crop .height) l)
+
+  pub half-even : p .crop .height < p .target .height → c % 2 ≡ 0 → cond (leb (p .target .height) (p .crop .height)) half (halfOf half c) ≡ half
+  half-even l e = simp (lt-leb (p .target .height) (p .crop .height) l, eq-eqb (c % 2) 0 e)
+
+  pub half-odd : p .crop .height < p .target .height → (c % 2 ≡ 0 → ⊥) → cond (leb (p .target .height) (p .crop .height)) half (halfOf half c) ≡ 0
+  half-odd l e = simp (lt-leb (p .target .height) (p .crop .height) l, ne-eqb (c % 2) 0 e)
 
 module _ (p : Plan) (row : List ℕ) (s : ℕ) (work : List ℕ) where
   -- the values of a half
@@ -115,7 +129,7 @@ module _ (p : Plan) (row : List ℕ) (s : ℕ) (work : List ℕ) where
               let same : length next ≡ length work = ap length next-is ∙ simp (length-append, length-take, length-tabulate, length-drop) (omega (arith, at-low)) in
               let f = le-leb (p .target .height) (p .crop .height) l in
               let q : at ≡ w = rw f at at-is in
-              let z = add-fits (p .target .width) (length next) (fits .target-width) (omega (arith, asks .room)) in
+              let z = add-fits (p .target .width) (length next) (record { target = fits .target-width; work-room = omega (arith, asks .room) }) in
               e ∙ add-written (p .target .width) next z
               ∙ ap (added w) (next-is ∙ ap (λ (x : ℕ). take x work ++ written w (valuesOf p row) (drop x work)) q)
               ∙ (let g : added w (take w work ++ written w (valuesOf p row) (drop w work)) ≡ rowIn (scaleBy p) (s - p .crop .y) (valuesOf p row) work = simp f in g)
