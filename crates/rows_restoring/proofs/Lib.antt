@@ -1,2 +1,2 @@
-pub mod Restores
-pub mod Restorings
+pub mod RestoredPixels
+pub mod RestoreRow

@@ -1,2 +1,2 @@
 pub mod Restoring
-pub mod Pixelwise
+pub mod Inner

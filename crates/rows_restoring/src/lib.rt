@@ -1,10 +1,12 @@
 // Pixels of an output row are restored and packed (document 01, "A row goes out" and "Lanes"; the Rust: mult_argb with `inverse` and pack_pixels;
 // libwebp's WebPMultARGBRow_C). In place, in passes: restore where a pixel isn't opaque, then the byte order.
 use arithmetic::mult_argb;
-use pixels::MAX_DIMENSION;
+use pixels::Checked;
+use pixels::Flagged;
+use pixels::PIXEL_LANES;
 use pixels::PixelLayout;
 use pixels::Refusal;
-use rows::Restored;
+use pixels::bad_side;
 ghost use mathlib.Core.Path.{_≡_};
 ghost use mathlib.Core.Bool.{_||_, not};
 ghost use Prim.Native.Nat.{_+_, _*_, _^_, _≤_};
@@ -12,11 +14,12 @@ ghost use lib.Dec.{eqb};
 ghost use lib.ListN.{length, getD};
 ghost use Rattle.arithmetic.specs.Matte.{laneOf};
 ghost use Rattle.arithmetic.specs.Table.{tabulate};
-ghost use Rattle.pixels.specs.Sizes.{pixelLanes, rowBytes, badSide};
+ghost use Rattle.pixels.specs.Refusals.{checkedNumber, flaggedNumber, flaggedFlag};
+ghost use Rattle.pixels.specs.Sizes.{pixelLanes, rowBytes};
 ghost use Rattle.pixels.specs.Layout.{alphaLane};
 ghost use Rattle.pixels.specs.Lanes.{restoredPlace};
-ghost use Rattle.rows_restoring.specs.Restoring.{restoredNumber, restoredFlag, restoreNumber, restoredOut, rowFlag};
-ghost use Rattle.rows_restoring.specs.Pixelwise.{restoredAt, putLanes, orderedByte, clearAfter};
+ghost use Rattle.rows_restoring.specs.Restoring.{restoreNumber, restoredOut, rowFlag};
+ghost use Rattle.rows_restoring.specs.Inner.Restoring.{restoredAt, putLanes, orderedByte, clearAfter};
 
 fn either(a: bool, b: bool) -> bool
     ensures { λ r. ⌜ r ≡ (a || b) ⌝ }
@@ -25,15 +28,6 @@ fn either(a: bool, b: bool) -> bool
         return true;
     }
     b
-}
-
-fn bad_side(side: u32) -> bool
-    ensures { λ r. ⌜ r ≡ badSide side ⌝ }
-{
-    if side == 0 {
-        return true;
-    }
-    side > MAX_DIMENSION
 }
 
 // The pixel AARRGGBB of its four lanes.
@@ -77,7 +71,7 @@ fn restore_lanes(out: &mut [u8], m: usize) -> bool
     let mut clear = false;
     let mut j = 0usize;
     while j < m {
-        clear = either(clear, restore_pixel(out, 4 * j));
+        clear = either(clear, restore_pixel(out, PIXEL_LANES * j));
         j += 1;
     }
     clear
@@ -90,7 +84,7 @@ fn swap_lanes(out: &mut [u8], m: usize)
 {
     let mut j = 0usize;
     while j < m {
-        let at = 4 * j;
+        let at = PIXEL_LANES * j;
         let b = out[at];
         out[at] = out[at + 2];
         out[at + 2] = b;
@@ -105,7 +99,7 @@ fn reverse_lanes(out: &mut [u8], m: usize)
 {
     let mut j = 0usize;
     while j < m {
-        let at = 4 * j;
+        let at = PIXEL_LANES * j;
         let b = out[at];
         let g = out[at + 1];
         let r = out[at + 2];
@@ -129,21 +123,35 @@ fn order_lanes(layout: PixelLayout, out: &mut [u8], m: usize)
     }
 }
 
+// The tests, in the order of their numbers, of a row of `out` bytes.
+fn check_restore(target_width: u32, out: usize) -> Checked
+    ensures { λ r. ⌜ checkedNumber r ≡ restoreNumber «target_width» out ⌝ }
+{
+    if bad_side(target_width as u64) {
+        return Checked::Refused(Refusal::InvalidDimensions);
+    }
+    if out != PIXEL_LANES * target_width as usize {
+        return Checked::Refused(Refusal::OutputLength);
+    }
+    Checked::Fit
+}
+
 // Restores a row of lanes B, G, R, A in place and packs it. The Rust: mult_argb with `inverse` and pack_pixels after Rescaler::export_row.
 // Rules out: a restored colour cut off at 255; two lanes exchanged; a flag that looks at a colour, or at the alpha before a spill.
-pub fn restore_row(layout: PixelLayout, target_width: u32, out: &mut [u8]) -> Restored
-    ensures number { λ r. ⌜ restoredNumber r ≡ restoreNumber «target_width» (length (now (out .entry))) ⌝ }
-    ensures flag { λ r. ⌜ restoredFlag r ≡ rowFlag layout «target_width» (now (out .entry)) ⌝ }
+pub fn restore_row(layout: PixelLayout, target_width: u32, out: &mut [u8]) -> Flagged
+    ensures number { λ r. ⌜ flaggedNumber r ≡ restoreNumber «target_width» (length (now (out .entry))) ⌝ }
+    ensures flag { λ r. ⌜ flaggedFlag r ≡ rowFlag layout «target_width» (now (out .entry)) ⌝ }
     ensures out { λ _. ⌜ now (out .exit) ≡ restoredOut layout «target_width» (now (out .entry)) ⌝ }
 {
-    if bad_side(target_width) {
-        return Restored::Refused(Refusal::InvalidDimensions);
+    let checked = check_restore(target_width, out.len());
+    match checked {
+        Checked::Refused(why) => {
+            return Flagged::Refused(why);
+        }
+        Checked::Fit => {}
     }
     let m = target_width as usize;
-    if out.len() != 4 * m {
-        return Restored::Refused(Refusal::OutputLength);
-    }
     let flag = restore_lanes(out, m);
     order_lanes(layout, out, m);
-    Restored::Flag(flag)
+    Flagged::Flag(flag)
 }

@@ -1,5 +1,5 @@
 -- `order_lanes` meets its contract: one loop for each layout that is not the scaler's own order. Assumes nothing.
-use Rattle.rows_restoring.proofs.Restores.{ordered-same}
+use Rattle.rows_restoring.proofs.RestoredPixels.{ordered-same}
 use borrow.Author.Needs.{needs}
 use Rattle.rows_restoring.proofs.order_lanes.Statement.{statement}
 use Rattle.rows_restoring.proofs.order_lanes.Tie as tie

@@ -1,5 +1,5 @@
 -- `put_word` meets its contract: the four bytes of a word are its lanes. Assumes nothing.
-use Rattle.rows_restoring.proofs.Restores.{lanes-are}
+use Rattle.rows_restoring.proofs.RestoredPixels.{lanes-are}
 use lib.ListN.{length-set}
 use native.Mathlib.Omega.{arith}
 use borrow.Author.Needs.{needs}

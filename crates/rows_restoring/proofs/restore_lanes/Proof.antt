@@ -1,8 +1,8 @@
 -- `restore_lanes` meets its contract: each turn restores the next pixel, and the flag is that of the pixels so far. Assumes nothing.
 use mathlib.Core.Path.{_≡_, ap, _∙_}
-use Rattle.rows_restoring.proofs.Restores.{Restoring, restore-first, restore-turn}
+use Rattle.rows_restoring.proofs.RestoredPixels.{Restoring, restore-first, restore-turn}
 use Rattle.arithmetic.proofs.Stores.{same, filled}
-use Rattle.rows_restoring.specs.Pixelwise.{clearAfter}
+use Rattle.rows_restoring.specs.Inner.Restoring.{clearAfter}
 use Prim.Native.Nat.{_-_, _≤_}
 use native.Mathlib.Omega.{arith}
 use borrow.Author.Needs.{needs}

@@ -1,7 +1,7 @@
 -- `restore_pixel` meets its contract: an opaque pixel is restored already, and any other is what mult_argb makes of its word. Assumes nothing.
 use lib.ListN.{getD}
 use Prim.Native.Nat.{ℕ, _<_}
-use Rattle.rows_restoring.proofs.Restores.{opaque-kept, opaque-flag, pixel-done}
+use Rattle.rows_restoring.proofs.RestoredPixels.{opaque-kept, opaque-flag, pixel-done}
 use borrow.Author.Needs.{needs}
 use Rattle.rows_restoring.proofs.restore_pixel.Statement.{statement}
 use Rattle.rows_restoring.proofs.restore_pixel.Tie as tie

@@ -1,5 +1,5 @@
 -- `reverse_lanes` meets its contract: each turn reverses the four bytes of the next pixel. Assumes nothing.
-use Rattle.rows_restoring.proofs.Restores.{Ordered, order-first, reverse-turn}
+use Rattle.rows_restoring.proofs.RestoredPixels.{Ordered, order-first, reverse-turn}
 use Rattle.pixels.specs.declared.PixelLayout.the-variants.{Argb8}
 use Rattle.arithmetic.proofs.Stores.{same, filled}
 use lib.ListN.{length-set}

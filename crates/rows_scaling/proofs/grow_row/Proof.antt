@@ -1,3 +1,4 @@
+-- `grow_row` meets its contract: the two halves are lent as parts, and the loops' b and factor are document 01's. Assumes nothing.
 use Rattle.rows_scaling.proofs.Factors.{factor-half, half-most, half-lent, grow-out, level-out}
 use Rattle.rows_scaling.proofs.DueRow.{up-some, up-low, up-high}
 use Rattle.rows_scaling.specs.Inner.Scaling.{scaleIn}

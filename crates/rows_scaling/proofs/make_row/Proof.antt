@@ -1,3 +1,4 @@
+-- `make_row` meets its contract: one of the two directions; a height that grows leaves the halves. Assumes nothing.
 use Rattle.rows_scaling.proofs.Factors.{halves-stay}
 use Rattle.rows_scaling.specs.Inner.Scaling.{scaleIn}
 use borrow.Author.Needs.{needs}

@@ -1,3 +1,4 @@
+-- `scale_row` meets its contract: a refusal is handed on; past the tests the row is asked what it may ask. Assumes nothing.
 use Rattle.rows_scaling.proofs.ScaleRow.{scale-refused, row-asks, room-asks, scale-done}
 use mathlib.Core.Path.{sym}
 use borrow.Author.Needs.{needs}

@@ -1,3 +1,4 @@
+-- `shrink_row` meets its contract: d is in its range, so it fits; the loops' step and ratio are document 01's factors. Assumes nothing.
 use Rattle.rows_scaling.proofs.Factors.{step-of, ratio-most, ratio-half, shrink-out, shrink-work, take-out, take-work}
 use Rattle.rows_scaling.proofs.DueRow.{down-low, down-high, row-most}
 use Rattle.rows_scaling.specs.Inner.Scaling.{scaleIn}

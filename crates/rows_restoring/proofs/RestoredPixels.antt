@@ -24,7 +24,7 @@ use Rattle.pixels_alpha.specs.Alpha.{someClear, hasAlpha}
 use Rattle.pixels.proofs.Tabled.{each-lane, place-lt, place-twice}
 use Rattle.pixels.proofs.Packing.{packed-byte}
 use Rattle.pixels_alpha.proofs.Flags.{clear-none, clear-cong}
-use Rattle.rows_restoring.specs.Pixelwise.{wordAt, restoredAt, putLanes, orderedByte, clearAfter}
+use Rattle.rows_restoring.specs.Inner.Restoring.{wordAt, restoredAt, putLanes, orderedByte, clearAfter}
 use Rattle.arithmetic.proofs.Stores.{Stored, none-stored, store, keep, place, ahead}
 
 -- ---- the scaler's own order

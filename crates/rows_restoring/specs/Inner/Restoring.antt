@@ -1,4 +1,4 @@
--- What the functions of src/restore.rt do to a row of lanes, pixel by pixel: the public promises are those of Restoring. Assumes nothing.
+-- What the private functions of src/lib.rt do to a row of lanes, pixel by pixel. The public promises are those of Restoring. Assumes nothing.
 use Prim.Native.Nat.{ℕ, _+_, _*_, _/_, _%_}
 use mathlib.Core.Bool.{Bool, true}
 use mathlib.Core.List.{List}
