@@ -18,9 +18,9 @@ use Rattle.rows_schedule.proofs.Needed.{needed-used}
 use Rattle.rows.specs.WorkRows.{byteOut}
 use Rattle.rows_scaling.specs.Scaling.{due, scaleNumber, scaledOut, scaledWork}
 use Rattle.rows_restoring.specs.Restoring.{restoreNumber, restoredRow, restoredOut, rowFlag}
-use Rattle.rows_scaling.proofs.Dues.{needed-due}
-use Rattle.rows_scaling.proofs.Scalings.{scale-passes}
-use Rattle.rows_restoring.proofs.Restorings.{restore-passes}
+use Rattle.rows_scaling.proofs.DueRow.{needed-due}
+use Rattle.rows_scaling.proofs.ScaleRow.{scale-passes}
+use Rattle.rows_restoring.proofs.RestoreRow.{restore-passes}
 use Rattle.job.specs.declared.Plan.{Plan}
 use Rattle.job.specs.declared.Job.{Job}
 use Rattle.job.specs.Calls.{scaleBy, usedBy, rowTaken, workTaken, takeNumber}
@@ -59,11 +59,16 @@ module _ (j : Job) (out work : List ℕ) (goes : takeNumber j (length out) (leng
   scale-goes : scaleNumber (cropSize (j .plan)) (j .plan .target) (usedBy j) (j .taken) (length out) (length work) ≡ 0
   scale-goes =
       scale-passes (cropSize (j .plan)) (j .plan .target) (usedBy j) (j .taken) (length out) (length work)
-      (size-good (cropSize (j .plan))
-      (record { some = w .rules .sizes .crop-width; most = omega (arith, w .rules .sizes .right, w .rules .sizes .source-width .most) })
-      (record { some = w .rules .sizes .crop-height; most = omega (arith, w .rules .sizes .bottom, w .rules .sizes .source-height .most) }))
-      (size-good (j .plan .target) (w .rules .sizes .target-width) (w .rules .sizes .target-height))
-      (w .exact) (w .room) row-due
+      (record {
+        crop-fits =
+            size-good (cropSize (j .plan))
+            (record { some = w .rules .sizes .crop-width; most = omega (arith, w .rules .sizes .right, w .rules .sizes .source-width .most) })
+            (record { some = w .rules .sizes .crop-height; most = omega (arith, w .rules .sizes .bottom, w .rules .sizes .source-height .most) });
+        target-fits = size-good (j .plan .target) (w .rules .sizes .target-width) (w .rules .sizes .target-height);
+        out-exact = w .exact;
+        work-enough = w .room;
+        ready = row-due;
+      })
 
   -- ---- the lanes, and the work rows afterwards; u is what the code has for the crop rows used
   module _ (u : ℕ) (u-is : u ≡ usedBy j) where

@@ -1,37 +1,28 @@
-use Rattle.job.proofs.Accepting.{most-lent, most-left}
+-- The smaller of the rows lent and those left. Assumes nothing.
 use native.Mathlib.Omega.{arith}
 use borrow.Author.Needs.{needs}
+use Rattle.job.proofs.Accepting.{most-lent, most-left}
 use Rattle.job.proofs.most_rows.Statement.{statement}
 use Rattle.job.proofs.most_rows.Tie as tie
-use Rattle.job.proofs.most_rows.Reads as reads
-use Rattle.job.proofs.most_rows.Lts as lts
-use Rattle.job.proofs.row_bytes.Reads as row-bytes-reads
 
--- src/lib.rt:100:20
 row-bytes-requires : tie.Need-row-bytes-requires
 row-bytes-requires c κs = search needs
 
--- src/lib.rt:100:16
 div-lent : tie.Need-div-lent
 div-lent c = let q = (c .before .pre) in omega (arith, (c .row-bytes) .ensures, q .sizes .source-width .some)
 
--- src/lib.rt:101:16
 sub-left : tie.Need-sub-left
 sub-left c = let q = (c .before .before .pre) in omega (arith, q .rows)
 
--- src/lib.rt:102:15
 cast-if1 : tie.Need-cast-if1
 cast-if1 c = search needs
 
--- src/lib.rt:103:16
 cast-result : tie.Need-cast-result
 cast-result c = search needs
 
--- src/lib.rt:103:9
 returns : tie.Need-returns
 returns c = most-lent ((c .before .before .before .args) .j) ((c .before .before .before .args) .n) _ ((c .before .before .row-bytes) .ensures) ((c .if1) .taken)
 
--- src/lib.rt:96:1
 returns-2 : tie.Need-returns-2
 returns-2 c = most-left ((c .before .before .before .args) .j) ((c .before .before .before .args) .n) _ ((c .before .before .row-bytes) .ensures) ((c .if1) .left)
 

@@ -1,56 +1,48 @@
+-- A refusal is handed on with its number; else both halves are cleared. Assumes nothing.
+use Prim.Native.Nat.{ℕ, _*_}
+use mathlib.Core.Path.{sym, ap}
+use native.Mathlib.Omega.{arith}
+use borrow.Author.Needs.{needs}
+use Rattle.job.specs.Record.{planOf}
 use Rattle.job.proofs.Answering.{start-refused, start-goes}
 use Rattle.job.proofs.Views.{start-went}
-use Rattle.job.specs.Record.{planOf}
-use native.Mathlib.Omega.{arith}
-use mathlib.Core.Path.{sym}
-use borrow.Author.Needs.{needs}
 use Rattle.job.proofs.start.Statement.{statement}
 use Rattle.job.proofs.start.Tie as tie
-use Rattle.job.proofs.start.Reads as reads
-use Rattle.job.proofs.start.Lts as lts
-use Rattle.job.proofs.check_start.Reads as check-start-reads
-use Rattle.job.proofs.clear.Reads as clear-reads
-use Rattle.job.proofs.row_bytes.Reads as row-bytes-reads
 
--- src/lib.rt:295:9
 check-start-requires : tie.Need-check-start-requires
 check-start-requires c κs = search needs
 
--- src/lib.rt:297:26
 enum-known-checked : tie.Need-enum-known-checked
 enum-known-checked c = search needs
 
--- src/lib.rt:298:13
 returns : tie.Need-returns
-returns c = let a = (c .before .before .before .before .before .args) in
+returns c =
+    let a = (c .before .before .before .before .before .args) in
     let p = planOf (a .source) (a .layout) (a .crop) (a .target) in
     start-refused p (a .work .now) ((c .before .checked) .given .0 .0) (sym (rw ((c .before .checked) .given .1) at ((c .before .before .before .check-start) .ensures)))
 
 enum-told : tie.Need-enum-told
 enum-told c = search needs
 
--- src/lib.rt:302:21
 row-bytes-requires : tie.Need-row-bytes-requires
 row-bytes-requires c κs = search needs
 
--- src/lib.rt:302:17
 mul-clear : tie.Need-mul-clear
 mul-clear c = search needs
 
--- src/lib.rt:302:5
 clear-requires : tie.Need-clear-requires
-clear-requires c κs = let a = (c .before .before .before .before .before .before .args) in
+clear-requires c κs =
+    let a = (c .before .before .before .before .before .before .args) in
     let p = planOf (a .source) (a .layout) (a .crop) (a .target) in
     let z = sym (rw ((c .before .before .enum-told) .given .1) at ((c .before .before .before .before .check-start) .ensures)) in
     omega (arith, (c .row-bytes) .ensures, start-went p (a .work .now) z .room)
 
--- src/lib.rt:278:1
 same-length : tie.Need-same-length
 same-length c = search needs
 
--- src/lib.rt:278:1
 returns-2 : tie.Need-returns-2
-returns-2 c = let a = (c .before .before .before .before .before .before .before .before .before .args) in
+returns-2 c =
+    let a = (c .before .before .before .before .before .before .before .before .before .args) in
     let p = planOf (a .source) (a .layout) (a .crop) (a .target) in
     let z = sym (rw ((c .before .before .before .before .before .enum-told) .given .1) at ((c .before .before .before .before .before .before .before .check-start) .ensures)) in
     start-goes p (a .work .now) z _ _ (ap (λ (x : ℕ). 2 * x) (c .before .before .before .row-bytes .ensures)) ((c .before .before .clear) .ensures)

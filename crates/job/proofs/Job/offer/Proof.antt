@@ -1,47 +1,39 @@
+-- A refusal is handed on with the record; else the rows are accepted and the record moves on by their count. Assumes nothing.
+use mathlib.Core.Path.{sym}
+use native.Mathlib.Omega.{arith}
+use borrow.Author.Needs.{needs}
 use Rattle.job.proofs.Answering.{offer-refused, offer-accepts, count-fits}
 use Rattle.job.proofs.Views.{offer-went}
-use native.Mathlib.Omega.{arith}
-use mathlib.Core.Path.{sym}
-use borrow.Author.Needs.{needs}
 use Rattle.job.proofs.Job.offer.Statement.{statement}
 use Rattle.job.proofs.Job.offer.Tie as tie
-use Rattle.job.proofs.Job.offer.Reads as reads
-use Rattle.job.proofs.Job.offer.Lts as lts
-use Rattle.job.proofs.accept.Reads as accept-reads
-use Rattle.job.proofs.check_offer.Reads as check-offer-reads
 
--- src/lib.rt:360:13
 check-offer-requires : tie.Need-check-offer-requires
 check-offer-requires c κs = search needs
 
--- src/lib.rt:362:30
 enum-known-checked : tie.Need-enum-known-checked
 enum-known-checked c = search needs
 
--- src/lib.rt:363:17
 returns : tie.Need-returns
 returns c = let a = (c .before .before .before .before .before .before .args) in offer-refused (a .self) (a .rows .now) (a .work .now) ((c .before .checked) .given .0 .0) (sym (rw ((c .before .checked) .given .1) at ((c .before .before .before .check-offer) .ensures)))
 
 enum-told : tie.Need-enum-told
 enum-told c = search needs
 
--- src/lib.rt:370:13
 accept-requires : tie.Need-accept-requires
 accept-requires c κs = sym (rw ((c .before .enum-told) .given .1) at ((c .before .before .before .check-offer) .ensures))
 
--- src/lib.rt:371:25
 add-self : tie.Need-add-self
-add-self c = let a = (c .before .before .before .before .before .before .before .before .before .before .args) in
+add-self c =
+    let a = (c .before .before .before .before .before .before .before .before .before .before .args) in
     let z = sym (rw ((c .before .before .before .before .before .enum-told) .given .1) at ((c .before .before .before .before .before .before .before .check-offer) .ensures)) in
     omega (arith, count-fits (a .self) _ _ (offer-went (a .self) (a .rows .now) (a .work .now) z .rules) ((c .before .before .before .accept) .ensures .0))
 
--- src/lib.rt:354:5
 same-length : tie.Need-same-length
 same-length c = search needs
 
--- src/lib.rt:354:5
 returns-2 : tie.Need-returns-2
-returns-2 c = let a = (c .before .before .before .before .before .before .before .before .before .before .args) in
+returns-2 c =
+    let a = (c .before .before .before .before .before .before .before .before .before .before .args) in
     let z = sym (rw ((c .before .before .before .before .before .enum-told) .given .1) at ((c .before .before .before .before .before .before .before .check-offer) .ensures)) in
     offer-accepts (a .self) (a .rows .now) (a .work .now) z _ _ ((c .before .before .before .accept) .ensures .0) ((c .before .before .before .accept) .ensures .1)
 

@@ -1,52 +1,43 @@
+-- A refusal is handed on with the record; else the row is written and the record moves on by one. Assumes nothing.
+use mathlib.Core.Path.{sym}
+use native.Mathlib.Omega.{arith}
+use borrow.Author.Needs.{needs}
 use Rattle.job.proofs.Answering.{take-refused, take-writes, made-fits}
 use Rattle.job.proofs.Views.{take-went}
-use native.Mathlib.Omega.{arith}
-use mathlib.Core.Path.{sym}
-use borrow.Author.Needs.{needs}
 use Rattle.job.proofs.Job.take.Statement.{statement}
 use Rattle.job.proofs.Job.take.Tie as tie
-use Rattle.job.proofs.Job.take.Reads as reads
-use Rattle.job.proofs.Job.take.Lts as lts
-use Rattle.job.proofs.check_take.Reads as check-take-reads
-use Rattle.job.proofs.row_out.Reads as row-out-reads
 
--- src/lib.rt:383:13
 check-take-requires : tie.Need-check-take-requires
 check-take-requires c κs = search needs
 
--- src/lib.rt:385:30
 enum-known-checked : tie.Need-enum-known-checked
 enum-known-checked c = search needs
 
--- src/lib.rt:386:17
 returns : tie.Need-returns
 returns c = let a = (c .before .before .before .before .before .before .args) in take-refused (a .self) (a .out .now) (a .work .now) ((c .before .checked) .given .0 .0) (sym (rw ((c .before .checked) .given .1) at ((c .before .before .before .check-take) .ensures)))
 
 enum-told : tie.Need-enum-told
 enum-told c = search needs
 
--- src/lib.rt:393:13
 row-out-requires : tie.Need-row-out-requires
 row-out-requires c κs = sym (rw ((c .before .before .enum-told) .given .1) at ((c .before .before .before .before .check-take) .ensures))
 
--- src/lib.rt:394:22
 add-self : tie.Need-add-self
-add-self c = let a = (c .before .before .before .before .before .before .before .before .before .before .before .before .before .args) in
+add-self c =
+    let a = (c .before .before .before .before .before .before .before .before .before .before .before .before .before .args) in
     let z = sym (rw ((c .before .before .before .before .before .before .before .before .enum-told) .given .1) at ((c .before .before .before .before .before .before .before .before .before .before .check-take) .ensures)) in
     let w = take-went (a .self) (a .out .now) (a .work .now) z in
     omega (arith, made-fits (a .self) (w .rules), w .ready)
 
--- src/lib.rt:377:5
 same-length : tie.Need-same-length
 same-length c = search needs
 
--- src/lib.rt:377:5
 same-length-2 : tie.Need-same-length-2
 same-length-2 c = search needs
 
--- src/lib.rt:377:5
 returns-2 : tie.Need-returns-2
-returns-2 c = let a = (c .before .before .before .before .before .before .before .before .before .before .before .before .before .args) in
+returns-2 c =
+    let a = (c .before .before .before .before .before .before .before .before .before .before .before .before .before .args) in
     let z = sym (rw ((c .before .before .before .before .before .before .before .before .enum-told) .given .1) at ((c .before .before .before .before .before .before .before .before .before .before .check-take) .ensures)) in
     take-writes (a .self) (a .out .now) (a .work .now) z _ _ _ ((c .before .before .before .before .before .row-out) .ensures .1 .0) ((c .before .before .before .before .before .row-out) .ensures .1 .1) ((c .before .before .before .before .before .row-out) .ensures .0)
 
