@@ -20,13 +20,13 @@ use Rattle.rows_laws.proofs.Held.{Held, held-in}
 use Rattle.rows_laws.proofs.WorkRows.{rowIn-length}
 use Rattle.job.specs.declared.Plan.{Plan}
 use Rattle.job.specs.Record.{lanesOf, R}
-use Rattle.job.specs.Calls.{inCrop, valuesOf, rowAccepted, fed}
+use Rattle.job.specs.Calls.{scaleBy, inCrop, valuesOf, rowAccepted, fed}
 use Rattle.job_claim.proofs.Reading.{cropValue, values-are}
 
 -- what the work rows hold once k source rows were accepted and t rows taken
 abbrev pub Holds : Plan → (ℕ → ℕ) → ℕ → ℕ → List ℕ → Type 0
 Holds p b k t work =
-    Held (p .crop .height) (p .target .height) (halfValues (lanesOf p) (p .target .width)) (cropValue p b) (used (p .crop .y) (p .crop .height) k) t work
+    Held (scaleBy p) (cropValue p b) (used (p .crop .y) (p .crop .height) k) t work
 
 -- ---- a row of the bytes lent
 module _ (rows : List ℕ) (w n i : ℕ) (here : rowBytes pixelLanes w * n ≤ length rows) (l : i < n) where
@@ -44,7 +44,7 @@ module _ (rows : List ℕ) (w n i : ℕ) (here : rowBytes pixelLanes w * n ≤ l
 -- ---- one source row
 module _ (p : Plan) (fits : Fits (p .source) (p .crop) (p .target)) where
   pub row-in : (row : List ℕ) (s : ℕ) (work : List ℕ) → p .crop .y ≤ s → s < p .crop .y + p .crop .height
-      → rowAccepted p row s work ≡ rowIn (p .crop .height) (p .target .height) (halfValues (lanesOf p) (p .target .width)) (s - p .crop .y) (valuesOf p row) work
+      → rowAccepted p row s work ≡ rowIn (scaleBy p) (s - p .crop .y) (valuesOf p row) work
   unfolding rowAccepted
   row-in row s work a b = simp (le-leb (p .crop .y) s a, lt-ltb s (p .crop .y + p .crop .height) b)
 
@@ -59,7 +59,7 @@ module _ (p : Plan) (fits : Fits (p .source) (p .crop) (p .target)) where
       by : Place (p .crop .y) (p .crop .height) s → length (rowAccepted p row s work) ≡ length work
       by (within a b) =
           ap length (row-in row s work a b)
-          ∙ rowIn-length (p .crop .height) (p .target .height) (halfValues (lanesOf p) (p .target .width)) (s - p .crop .y) (valuesOf p row) work (omega arith)
+          ∙ rowIn-length (scaleBy p) (s - p .crop .y) (valuesOf p row) work (omega arith)
       by (beside e w) = ap length (row-beside row s work w)
 
   -- the row's bytes being those of b
@@ -75,7 +75,7 @@ module _ (p : Plan) (fits : Fits (p .source) (p .crop) (p .target)) where
           let at : p .crop .y + u ≡ k = used-row (p .crop .y) (p .crop .height) k a c in
           let same = values-are p b row u fits long (λ z l. agrees z l ∙ ap (λ (s : ℕ). b (rowBytes (lanesOf p) (p .source .width) * s + z)) (sym at)) in
           rw (row-in row k work a c, e, inside (p .crop .y) (p .crop .height) k a c)
-          (held-in (p .crop .height) (p .target .height) (halfValues (lanesOf p) (p .target .width)) (cropValue p b) u t (valuesOf p row) work
+          (held-in (scaleBy p) (cropValue p b) u t (valuesOf p row) work
           (since-le (p .crop .height) (p .target .height) u t (fits .crop-height) (fits .target-height .some) le) same held)
       by (beside e w) = rw (row-beside row k work w, e) held
 

@@ -21,7 +21,7 @@ use Rattle.job.specs.declared.Plan.{Plan}
 use Rattle.job.specs.declared.Job.{Job}
 use Rattle.job.specs.Record.{lanesOf, R, Rules, fresh}
 use Rattle.job.specs.Calls as calls
-use Rattle.job.specs.Calls.{count, lentRows, moreAccepted, moreTaken, fed, rowTaken, workTaken, startNumber, startWork, cleared}
+use Rattle.job.specs.Calls.{scaleBy, mostRows, count, lentRows, moreAccepted, moreTaken, fed, rowTaken, workTaken, startNumber, startWork, cleared}
 use Rattle.job.proofs.Counting.{counted-most, counted-low, counted-some}
 use Rattle.job.proofs.Views.{WholeRows, OfferTurned, OfferWent, offer-view, TakeTurned, TakeWent, take-view, StartWent, start-went}
 use Rattle.job_claim.specs.Rows.{rowOf, joined}
@@ -64,12 +64,12 @@ module _ (p : Plan) (b : ℕ → ℕ) (k t : ℕ) where
   held-lent : (lent : ℕ) (work : List ℕ) → workValues (lanesOf p) (p .target .width) ≤ length (take lent work) → Holds p b k t work → Holds p b k t (take lent work)
   held-lent lent work room held =
       let l : workValues (lanesOf p) (p .target .width) ≤ min lent (length work) = rw length-take at room in
-      held-same (p .crop .height) (p .target .height) (halfValues (lanesOf p) (p .target .width)) (cropValue p b) _ t work (take lent work) (omega arith)
+      held-same (scaleBy p) (cropValue p b) _ t work (take lent work) (omega arith)
       (λ i h. getD-take lent work i 0 (omega arith)) held
 
   held-back : (part rest : List ℕ) → workValues (lanesOf p) (p .target .width) ≤ length part → Holds p b k t part → Holds p b k t (part ++ rest)
   held-back part rest room held =
-      held-same (p .crop .height) (p .target .height) (halfValues (lanesOf p) (p .target .width)) (cropValue p b) _ t part (part ++ rest) (rw length-append (omega arith))
+      held-same (scaleBy p) (cropValue p b) _ t part (part ++ rest) (rw length-append (omega arith))
       (λ i h. List·getD-append part rest 0 i (omega arith)) held
 
 agrees-left : (b : ℕ → ℕ) (s t : List ℕ) → Agrees b (s ++ t) → Agrees b s
@@ -91,16 +91,16 @@ module _ (p : Plan) (n : ℕ) (whole : WholeRows p n) where
       by (suc x) e = omega arith
 
 module _ (j : Job) (n : ℕ) where
-  pub count-most : count j n ≤ min (lentRows (j .plan) n) (j .plan .source .height - j .accepted)
-  count-most = counted-most (R (j .plan)) (j .accepted) (j .taken) (min (lentRows (j .plan) n) (j .plan .source .height - j .accepted))
+  pub count-most : count j n ≤ mostRows j n
+  count-most = counted-most (R (j .plan)) (j .accepted) (j .taken) (mostRows j n)
 
-  pub count-low : (i : ℕ) → i < count j n → R (j .plan) (j .accepted + i) ≤ j .taken
-  count-low i l = counted-low (R (j .plan)) (j .accepted) (j .taken) (min (lentRows (j .plan) n) (j .plan .source .height - j .accepted)) i l
+  pub count-low : R (j .plan) (j .accepted) ≤ j .taken → (i : ℕ) → i < count j n → R (j .plan) (j .accepted + i) ≤ j .taken
+  count-low quiet i l = counted-low (R (j .plan)) (j .accepted) (j .taken) quiet (mostRows j n) i l
 
   pub count-some : WholeRows (j .plan) n → R (j .plan) (j .accepted) ≤ j .taken → j .accepted < j .plan .source .height → 0 < count j n
   count-some whole a b =
       let q = some-lent (j .plan) n whole in
-      counted-some (R (j .plan)) (j .accepted) (j .taken) (min (lentRows (j .plan) n) (j .plan .source .height - j .accepted)) (omega arith) a
+      counted-some (R (j .plan)) (j .accepted) (j .taken) (mostRows j n) (omega arith)
 
   pub count-bytes : WholeRows (j .plan) n → rowBytes (lanesOf (j .plan)) (j .plan .source .width) * count j n ≤ n
   count-bytes whole =
@@ -115,7 +115,7 @@ offer-rules j n q whole a b =
     let most = count-most j n in
     let e : j .accepted + (c - 1) ≡ j .accepted + c - 1 = omega arith in
     let e2 : c + j .accepted ≡ j .accepted + c = omega arith in
-    let low : R (j .plan) (j .accepted + (c - 1)) ≤ j .taken = count-low j n (c - 1) (omega arith) in
+    let low : R (j .plan) (j .accepted + (c - 1)) ≤ j .taken = count-low j n a (c - 1) (omega arith) in
     let up : R (j .plan) (j .accepted) ≤ R (j .plan) (c + j .accepted) = rows-le (j .plan .crop .y) (j .plan .crop .height) (j .plan .target .height) (q .sizes .crop-height) (j .accepted) c in
     record {
       sizes = q .sizes;
@@ -269,7 +269,7 @@ begun-inv p work o =
       bytes = omega arith;
       outs = refl;
       out-bytes = omega arith;
-      held = λ b agree. rw (unused, both) (held-start (p .crop .height) (p .target .height) (halfValues (lanesOf p) (p .target .width)) (cropValue p b) (drop (halfValues (lanesOf p) (p .target .width) + halfValues (lanesOf p) (p .target .width)) work));
+      held = λ b agree. rw (unused, both) (held-start (scaleBy p) (cropValue p b) (drop (halfValues (lanesOf p) (p .target .width) + halfValues (lanesOf p) (p .target .width)) work));
       handed = λ b agree y l. absurd (omega arith);
       flagged = rw mul-zero (sym (hasAlpha-none (p .layout) []));
     }

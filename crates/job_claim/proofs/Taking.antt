@@ -29,7 +29,7 @@ use Rattle.rows_laws.proofs.Taken.{takenPixel, Matted, matte-matted, taken-alph
 use Rattle.job.specs.declared.Plan.{Plan}
 use Rattle.job.specs.declared.Job.{Job}
 use Rattle.job.specs.Record.{lanesOf, R, Rules}
-use Rattle.job.specs.Calls.{usedBy, rowTaken, workTaken}
+use Rattle.job.specs.Calls.{scaleBy, usedBy, rowTaken, workTaken}
 use Rattle.job_claim.specs.Rows.{sourceByte, mattedByte, scaledLane, rowOf}
 use Rattle.job.proofs.Restoring.{restored-cong}
 use Rattle.job_claim.proofs.Reading.{cropValue, cropValue-word, matted-small}
@@ -48,15 +48,15 @@ module _ (j : Job) (rules : Rules j) (ready : j .taken < R (j .plan) (j .accepte
       let p : Plan = j .plan in
       tabulate-cong _ _ (rowBytes (lanesOf p) (p .target .width))
       (λ z l. restored-cong (p .layout) _ _ (p .target .width) z l
-      (λ x u. held-byte (p .crop .height) (p .target .height) (halfValues (lanesOf p) (p .target .width)) (cropValue p b) (usedBy j) (j .taken) work (rules .sizes .crop-height)
-      (rules .sizes .target-height .some) row-needs held (span (p .crop .width) (p .target .width)) x u))
+      (λ x u. held-byte (scaleBy p) (cropValue p b) (usedBy j) (j .taken) work (rules .sizes .crop-height)
+      (rules .sizes .target-height .some) row-needs held x u))
 
   pub left-holds : (b : ℕ → ℕ) (work : List ℕ) → Holds (j .plan) b (j .accepted) (j .taken) work → Holds (j .plan) b (j .accepted) (suc (j .taken)) (workTaken j work)
   unfolding workTaken
   left-holds b work held =
       let p : Plan = j .plan in
-      held-out (p .crop .height) (p .target .height) (halfValues (lanesOf p) (p .target .width)) (cropValue p b) (usedBy j) (j .taken) work (rules .sizes .crop-height)
-      (rules .sizes .target-height .some) row-needs held (span (p .crop .width) (p .target .width)) (cropValue-word p b (rules .sizes))
+      held-out (scaleBy p) (cropValue p b) (usedBy j) (j .taken) work (rules .sizes .crop-height)
+      (rules .sizes .target-height .some) row-needs held (cropValue-word p b (rules .sizes))
 
 pub row-taken-length : (j : Job) (work : List ℕ) → length (rowTaken j work) ≡ rowBytes (lanesOf (j .plan)) (j .plan .target .width)
 unfolding rowTaken
@@ -64,7 +64,7 @@ row-taken-length j work = length-tabulate _ (rowBytes (lanesOf (j .plan)) (j .pl
 
 pub left-length : (j : Job) (work : List ℕ) → workValues (lanesOf (j .plan)) (j .plan .target .width) ≤ length work → length (workTaken j work) ≡ length work
 unfolding workTaken
-left-length j work room = rowLeft-length _ _ _ _ _ _ work (omega arith)
+left-length j work room = rowLeft-length _ _ _ work (omega arith)
 
 -- ---- the byte of lane k, column i, of a row
 module _ (p : Plan) (b : ℕ → ℕ) (y i : ℕ) (inside : i < p .target .width) where

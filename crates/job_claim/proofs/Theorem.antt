@@ -22,7 +22,7 @@ use Rattle.rows.specs.Mean.{exactSum, total, Near, Premise}
 use Rattle.job.specs.declared.Plan.{Plan}
 use Rattle.job.specs.declared.Job.{Job}
 use Rattle.job.specs.Record.{lanesOf, R}
-use Rattle.job.specs.Calls.{count, lentRows, startNumber}
+use Rattle.job.specs.Calls.{mostRows, count, lentRows, startNumber}
 use Rattle.job.proofs.Counting.{counted-stop}
 use Rattle.job.proofs.Views
 use Rattle.job.proofs.Views.{WholeRows, TakeWent, OfferWent}
@@ -85,23 +85,23 @@ module _ (j : Job) (n : ℕ) (whole : WholeRows (j .plan) n) (quiet : R (j .plan
       some : 0 < count j n
       some = count-some j n whole quiet remain
 
-      stops : count j n < min (lentRows (j .plan) n) (j .plan .source .height - j .accepted) → j .taken < R (j .plan) (j .accepted + count j n)
-      stops = counted-stop (R (j .plan)) (j .accepted) (j .taken) (min (lentRows (j .plan) n) (j .plan .source .height - j .accepted))
+      stops : count j n < mostRows j n → j .taken < R (j .plan) (j .accepted + count j n)
+      stops = counted-stop (R (j .plan)) (j .accepted) (j .taken) (mostRows j n)
 
       least : (c : ℕ) → 0 < c → j .taken < R (j .plan) (j .accepted + c) → ((i : ℕ) → 0 < i → i < c → R (j .plan) (j .accepted + i) ≤ j .taken)
-          → (count j n ≤ c) ⊎ (c < count j n) → (min (lentRows (j .plan) n) (j .plan .source .height - j .accepted) ≤ count j n) ⊎ (count j n < min (lentRows (j .plan) n) (j .plan .source .height - j .accepted))
-          → count j n ≡ min (min (lentRows (j .plan) n) (j .plan .source .height - j .accepted)) c
-      least c pos above below (inr x) y = absurd (omega (arith, count-low j n c x))
+          → (count j n ≤ c) ⊎ (c < count j n) → (mostRows j n ≤ count j n) ⊎ (count j n < mostRows j n)
+          → count j n ≡ min (mostRows j n) c
+      least c pos above below (inr x) y = absurd (omega (arith, count-low j n quiet c x))
       least c pos above below (inl x) (inl y) = omega (arith, count-most j n)
       least c pos above below (inl x) (inr y) = by (le-or-lt c (count j n))
         where
-          by : (c ≤ count j n) ⊎ (count j n < c) → count j n ≡ min (min (lentRows (j .plan) n) (j .plan .source .height - j .accepted)) c
+          by : (c ≤ count j n) ⊎ (count j n < c) → count j n ≡ min (mostRows j n) c
           by (inl z) = omega (arith, count-most j n)
           by (inr z) = absurd (omega (arith, stops y, below (count j n) some z))
 
       no-least : ((i : ℕ) → 0 < i → R (j .plan) (j .accepted + i) ≤ j .taken)
-          → (min (lentRows (j .plan) n) (j .plan .source .height - j .accepted) ≤ count j n) ⊎ (count j n < min (lentRows (j .plan) n) (j .plan .source .height - j .accepted))
-          → count j n ≡ min (lentRows (j .plan) n) (j .plan .source .height - j .accepted)
+          → (mostRows j n ≤ count j n) ⊎ (count j n < mostRows j n)
+          → count j n ≡ mostRows j n
       no-least none (inl y) = omega (arith, count-most j n)
       no-least none (inr y) = absurd (omega (arith, stops y, none (count j n) some))
 

@@ -38,6 +38,7 @@ use Rattle.job_claim.proofs.Reading.{cropValue}
 use Rattle.job_resize.specs.Resize.{rowValueAt, lastFirst, lastSecond, resizedWork}
 use Rattle.job_resize.specs.Inner.{Driven}
 use Rattle.job_resize.proofs.Going.{bytesOf, Going, rowsOf-length}
+use Rattle.job.specs.Calls.{scaleBy}
 
 -- ---- the last output row needs every crop row
 pub last-needs : (h g : ℕ) → 0 < h → 0 < g → needed h g (g - 1) ≡ h
@@ -79,7 +80,7 @@ halves w work room =
     sym (take-append-drop w work) ∙ ap₂ _++_ first (sym (take-append-drop w (drop w work)) ∙ ap₂ _++_ second (drop-drop w w work))
 
 -- ---- the halves of the end
-module _ (p : Plan) (b : ℕ → ℕ) (work : List ℕ) (ph : 0 < p .crop .height) (pg : 0 < p .target .height) (held : Held (p .crop .height) (p .target .height) (halfValues (lanesOf p) (p .target .width)) (cropValue p b) (p .crop .height) (p .target .height) work) where
+module _ (p : Plan) (b : ℕ → ℕ) (work : List ℕ) (ph : 0 < p .crop .height) (pg : 0 < p .target .height) (held : Held (scaleBy p) (cropValue p b) (p .crop .height) (p .target .height) work) where
   value-is : (x : ℕ) → (λ c. cropValue p b c x) ≡ rowValueAt p b x
   unfolding cropValue rowValueAt
   value-is x = refl
@@ -155,9 +156,9 @@ module _ (p : Plan) (pixels out₀ work₀ : List ℕ) (j : Job) (out work : Lis
       subst (λ (q : Plan). j .flag ≡ hasAlpha (q .layout) (rowsOf q (bytesOf pixels) (q .target .height)) (q .target .width * q .target .height)) (g .plan-is)
       (g .flagged ∙ ap (λ (t : ℕ). hasAlpha (j .plan .layout) (rowsOf (j .plan) (bytesOf pixels) t) (j .plan .target .width * t)) taken-all)
 
-  held-end : Held (j .plan .crop .height) (j .plan .target .height) (halfValues (lanesOf (j .plan)) (j .plan .target .width)) (cropValue (j .plan) (bytesOf pixels)) (j .plan .crop .height) (j .plan .target .height) work
-  held-end = subst (λ (t : ℕ). Held (j .plan .crop .height) (j .plan .target .height) (halfValues (lanesOf (j .plan)) (j .plan .target .width)) (cropValue (j .plan) (bytesOf pixels)) (j .plan .crop .height) t work) taken-all
-      (subst (λ (u : ℕ). Held (j .plan .crop .height) (j .plan .target .height) (halfValues (lanesOf (j .plan)) (j .plan .target .width)) (cropValue (j .plan) (bytesOf pixels)) u (j .taken) work) used-all (g .held))
+  held-end : Held (scaleBy (j .plan)) (cropValue (j .plan) (bytesOf pixels)) (j .plan .crop .height) (j .plan .target .height) work
+  held-end = subst (λ (t : ℕ). Held (scaleBy (j .plan)) (cropValue (j .plan) (bytesOf pixels)) (j .plan .crop .height) t work) taken-all
+      (subst (λ (u : ℕ). Held (scaleBy (j .plan)) (cropValue (j .plan) (bytesOf pixels)) u (j .taken) work) used-all (g .held))
 
   pub work-end : work ≡ tabulate (lastFirst p (bytesOf pixels)) (halfValues (lanesOf p) (p .target .width)) ++ (tabulate (lastSecond p (bytesOf pixels)) (halfValues (lanesOf p) (p .target .width)) ++ drop (workValues (lanesOf p) (p .target .width)) work₀)
   work-end =

@@ -22,7 +22,7 @@ use Rattle.rows_laws.proofs.WorkRows.{rowIn-rest, rowLeft-rest}
 use Rattle.job.specs.declared.Plan.{Plan}
 use Rattle.job.specs.declared.Job.{Job}
 use Rattle.job.specs.Record.{lanesOf, R, Rules, fresh}
-use Rattle.job.specs.Calls.{count, cleared, rowAccepted, valuesOf, fed, offerNumber, offerJob, offerWork, moreAccepted, takeNumber, takeJob, takeOut, takeWork, moreTaken, rowTaken, workTaken}
+use Rattle.job.specs.Calls.{scaleBy, count, cleared, rowAccepted, valuesOf, fed, offerNumber, offerJob, offerWork, moreAccepted, takeNumber, takeJob, takeOut, takeWork, moreTaken, rowTaken, workTaken}
 use Rattle.job.proofs.Views.{WholeRows, OfferWent, offer-went, offer-goes, TakeWent, take-went, take-goes}
 use Rattle.job_claim.specs.Rows.{rowOf, rowsOf}
 use Rattle.job_claim.proofs.Reading.{cropValue}
@@ -60,7 +60,7 @@ module _ (p : Plan) where
       by : Place (p .crop .y) (p .crop .height) s → drop (workValues (lanesOf p) (p .target .width)) (rowAccepted p row s work) ≡ drop (workValues (lanesOf p) (p .target .width)) work
       by (within a b) =
           rw (row-in p fits row s work a b, two-halves)
-          (rowIn-rest (p .crop .height) (p .target .height) (halfValues (lanesOf p) (p .target .width)) (s - p .crop .y) (valuesOf p row) work (omega arith))
+          (rowIn-rest (scaleBy p) (s - p .crop .y) (valuesOf p row) work (omega arith))
       by (beside e w) = ap (drop (workValues (lanesOf p) (p .target .width))) (row-beside p fits row s work w)
 
   pub fed-rest : (fits : Fits (p .source) (p .crop) (p .target)) (rows : List ℕ) (k c : ℕ) (work : List ℕ) → workValues (lanesOf p) (p .target .width) ≤ length work
@@ -72,7 +72,7 @@ module _ (p : Plan) where
 
 pub taken-rest : (j : Job) (work : List ℕ) → drop (workValues (lanesOf (j .plan)) (j .plan .target .width)) (workTaken j work) ≡ drop (workValues (lanesOf (j .plan)) (j .plan .target .width)) work
 unfolding workTaken
-taken-rest j work = rw (two-halves (j .plan)) (rowLeft-rest _ _ _ _ _ _ work (halfValues (lanesOf (j .plan)) (j .plan .target .width)))
+taken-rest j work = rw (two-halves (j .plan)) (rowLeft-rest _ _ _ work (halfValues (lanesOf (j .plan)) (j .plan .target .width)))
 
 -- ---- the job under way: the picture's pixels, the output and the work values as they were lent, and as they are
 pub record Going (p : Plan) (pixels out₀ work₀ : List ℕ) (j : Job) (out work : List ℕ) : Type 0 where
@@ -101,7 +101,7 @@ going-first p pixels out₀ work₀ fits pl ol room =
       pixels-long = pl;
       out-long = ol;
       room = rw (length-append, length-replicate) (omega arith);
-      held = rw (unused, two-halves p) (held-start (p .crop .height) (p .target .height) (halfValues (lanesOf p) (p .target .width)) (cropValue p (bytesOf pixels)) (drop (halfValues (lanesOf p) (p .target .width) + halfValues (lanesOf p) (p .target .width)) work₀));
+      held = rw (unused, two-halves p) (held-start (scaleBy p) (cropValue p (bytesOf pixels)) (drop (halfValues (lanesOf p) (p .target .width) + halfValues (lanesOf p) (p .target .width)) work₀));
       made = rw (mul-zero (rowBytes (lanesOf p) (p .target .width))) refl;
       flagged = rw (mul-zero (p .target .width)) (sym (hasAlpha-none (p .layout) []));
       rest = drop-at (replicate w 0) (drop w work₀) w (length-replicate w 0);

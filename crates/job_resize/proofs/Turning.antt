@@ -18,7 +18,7 @@ use Rattle.rows_schedule.proofs.Crop.{rows-all, rows-most}
 use Rattle.job.specs.declared.Plan.{Plan}
 use Rattle.job.specs.declared.Job.{Job}
 use Rattle.job.specs.Record.{lanesOf, R, Rules, fresh, lawful, readyOf}
-use Rattle.job.specs.Calls.{count, lentRows, cleared, offerJob, offerWork, takeJob, takeOut, takeWork, moreTaken, rowTaken}
+use Rattle.job.specs.Calls.{mostRows, count, lentRows, cleared, offerJob, offerWork, takeJob, takeOut, takeWork, moreTaken, rowTaken}
 use Rattle.job.proofs.Rules.{rules-good}
 use Rattle.job.proofs.Views.{take-went}
 use Rattle.job.proofs.Counting.{counted-stop}
@@ -89,7 +89,7 @@ module _ (p : Plan) (pixels out₀ work₀ : List ℕ) (j : Job) (out work : Lis
         by (inr ready) = rw (fed-already ready .0) (refl, refl)
 
     count-ready : R (j .plan) (j .accepted) ≤ j .taken → j .taken < R (j .plan) (j .accepted + count j (length (restOf j pixels)))
-    count-ready quiet = by (le-or-lt (min (lentRows (j .plan) (length (restOf j pixels))) (j .plan .source .height - j .accepted)) (count j (length (restOf j pixels))))
+    count-ready quiet = by (le-or-lt (mostRows j (length (restOf j pixels))) (count j (length (restOf j pixels))))
       where
         rest-rows : lentRows (j .plan) (length (restOf j pixels)) ≡ j .plan .source .height - j .accepted
         rest-rows =
@@ -98,14 +98,14 @@ module _ (p : Plan) (pixels out₀ work₀ : List ℕ) (j : Job) (out work : Lis
             rw (lent-length p pixels out₀ work₀ j out work g quiet more)
             (div-is {x = rowBytes (lanesOf (j .plan)) (j .plan .source .width) * (j .plan .source .height - j .accepted)} w {q = j .plan .source .height - j .accepted} (omega arith) (omega arith))
 
-        by : (min (lentRows (j .plan) (length (restOf j pixels))) (j .plan .source .height - j .accepted) ≤ count j (length (restOf j pixels))) ⊎ (count j (length (restOf j pixels)) < min (lentRows (j .plan) (length (restOf j pixels))) (j .plan .source .height - j .accepted))
+        by : (mostRows j (length (restOf j pixels)) ≤ count j (length (restOf j pixels))) ⊎ (count j (length (restOf j pixels)) < mostRows j (length (restOf j pixels)))
             → j .taken < R (j .plan) (j .accepted + count j (length (restOf j pixels)))
         by (inl all) =
             let here = remain p pixels out₀ work₀ j out work g quiet more in
             let e : j .accepted + count j (length (restOf j pixels)) ≡ j .plan .source .height = omega (arith, count-most j (length (restOf j pixels)), rest-rows) in
             let full = rows-all (j .plan .crop .y) (j .plan .crop .height) (j .plan .target .height) (g .rules .sizes .crop-height) (j .accepted + count j (length (restOf j pixels))) (omega (arith, g .rules .sizes .bottom)) in
             omega arith
-        by (inr stops) = counted-stop (R (j .plan)) (j .accepted) (j .taken) (min (lentRows (j .plan) (length (restOf j pixels))) (j .plan .source .height - j .accepted)) stops
+        by (inr stops) = counted-stop (R (j .plan)) (j .accepted) (j .taken) (mostRows j (length (restOf j pixels))) stops
 
     pub fed-ready : fedJob j pixels (length work) .taken < R (fedJob j pixels (length work) .plan) (fedJob j pixels (length work) .accepted)
     fed-ready = by (le-or-lt (R (j .plan) (j .accepted)) (j .taken))
