@@ -2,22 +2,19 @@
 // Each function over it takes it apart and calls a function of plain parameters, which does the work.
 use job_resize::resize;
 use pixels_crop::crop;
+use pixels_alpha::check_picture;
 use pixels_alpha::picture_has_alpha;
 use pixels::Checked;
 use pixels::Dimensions;
 use pixels::Flagged;
 use pixels::PixelLayout;
 use pixels::Rect;
-use pixels::Refusal;
-use pixels::Sized;
 ghost use mathlib.Core.Path.{_≡_};
-ghost use Prim.Native.Nat.{_*_};
 ghost use lib.ListN.{length};
-ghost use Rattle.pixels.specs.Refusals.{checkedNumber, flaggedNumber, flaggedFlag, flagIf, bufferIf};
-ghost use Rattle.pixels_alpha.specs.Alpha.{hasAlpha, pictureNumber};
-ghost use Rattle.pixels_crop.specs.Crop.{cropped, cropNumber};
-ghost use Rattle.job_claim.specs.Rows.{resized, resizedFlag};
-ghost use Rattle.job_resize.specs.Resize.{resizeNumber, resizedWork};
+ghost use Rattle.pixels.specs.Refusals.{checkedNumber, flaggedNumber, flaggedFlag};
+ghost use Rattle.pixels_alpha.specs.Alpha.{pictureNumber, pictureFlag};
+ghost use Rattle.pixels_crop.specs.Crop.{cropNumber, cropFlag, cropOut};
+ghost use Rattle.job_resize.specs.Resize.{resizeNumber, resizeFlag, resizeOut, resizeWork};
 
 pub struct ImageRef<'a> {
     pub dims: Dimensions,
@@ -32,27 +29,17 @@ pub struct Borrowed<'a> {
     pub image: ImageRef<'a>,
 }
 
-// Numbers 1 and 3, in that order, of a picture of the size in these bytes.
+// The work of new: numbers 1 and 3, in that order, of a picture of the size in these bytes.
 fn check_of(dims: Dimensions, pixels: &[u8]) -> Checked
     ensures { λ r. ⌜ checkedNumber r ≡ pictureNumber dims (length (now (pixels .entry))) ⌝ }
 {
-    let sized = Dimensions::new(dims.width, dims.height);
-    match sized {
-        Sized::Refused(why) => {
-            return Checked::Refused(why);
-        }
-        Sized::Size(_) => {}
-    }
-    if pixels.len() as u64 != 4 * dims.pixel_count() {
-        return Checked::Refused(Refusal::PixelBufferMismatch);
-    }
-    Checked::Fit
+    check_picture(dims, pixels.len())
 }
 
 // The work of has_alpha, on plain parameters: the fields in their order.
 fn flag_of(dims: Dimensions, layout: PixelLayout, pixels: &[u8]) -> Flagged
     ensures number { λ r. ⌜ flaggedNumber r ≡ pictureNumber dims (length (now (pixels .entry))) ⌝ }
-    ensures flag { λ r. ⌜ flaggedFlag r ≡ flagIf (pictureNumber dims (length (now (pixels .entry)))) (hasAlpha layout (now (pixels .entry)) (dims .width * dims .height)) ⌝ }
+    ensures flag { λ r. ⌜ flaggedFlag r ≡ pictureFlag dims layout (now (pixels .entry)) ⌝ }
 {
     picture_has_alpha(dims, layout, pixels)
 }
@@ -66,8 +53,8 @@ fn crop_of(
     out: &mut [u8],
 ) -> Flagged
     ensures number { λ r. ⌜ flaggedNumber r ≡ cropNumber dims rect (length (now (pixels .entry))) (length (now (out .entry))) ⌝ }
-    ensures flag { λ r. ⌜ flaggedFlag r ≡ flagIf (cropNumber dims rect (length (now (pixels .entry))) (length (now (out .entry)))) (hasAlpha layout (cropped dims rect (now (pixels .entry))) (rect .width * rect .height)) ⌝ }
-    ensures out { λ _. ⌜ now (out .exit) ≡ bufferIf (cropNumber dims rect (length (now (pixels .entry))) (length (now (out .entry)))) (cropped dims rect (now (pixels .entry))) (now (out .entry)) ⌝ }
+    ensures flag { λ r. ⌜ flaggedFlag r ≡ cropFlag dims layout rect (now (pixels .entry)) (length (now (out .entry))) ⌝ }
+    ensures out { λ _. ⌜ now (out .exit) ≡ cropOut dims rect (now (pixels .entry)) (now (out .entry)) ⌝ }
 {
     crop(dims, layout, pixels, rect, out)
 }
@@ -82,9 +69,9 @@ fn resize_of(
     work: &mut [u32],
 ) -> Flagged
     ensures number { λ r. ⌜ flaggedNumber r ≡ resizeNumber dims target (length (now (pixels .entry))) (length (now (out .entry))) (length (now (work .entry))) ⌝ }
-    ensures flag { λ r. ⌜ flaggedFlag r ≡ flagIf (resizeNumber dims target (length (now (pixels .entry))) (length (now (out .entry))) (length (now (work .entry)))) (resizedFlag dims layout target (now (pixels .entry))) ⌝ }
-    ensures out { λ _. ⌜ now (out .exit) ≡ bufferIf (resizeNumber dims target (length (now (pixels .entry))) (length (now (out .entry))) (length (now (work .entry)))) (resized dims layout target (now (pixels .entry))) (now (out .entry)) ⌝ }
-    ensures work { λ _. ⌜ now (work .exit) ≡ bufferIf (resizeNumber dims target (length (now (pixels .entry))) (length (now (out .entry))) (length (now (work .entry)))) (resizedWork dims layout target (now (pixels .entry)) (now (work .entry))) (now (work .entry)) ⌝ }
+    ensures flag { λ r. ⌜ flaggedFlag r ≡ resizeFlag dims layout target (now (pixels .entry)) (length (now (out .entry))) (length (now (work .entry))) ⌝ }
+    ensures out { λ _. ⌜ now (out .exit) ≡ resizeOut dims layout target (now (pixels .entry)) (now (out .entry)) (length (now (work .entry))) ⌝ }
+    ensures work { λ _. ⌜ now (work .exit) ≡ resizeWork dims layout target (now (pixels .entry)) (length (now (out .entry))) (now (work .entry)) ⌝ }
 {
     resize(dims, layout, target, pixels, out, work)
 }
@@ -133,7 +120,7 @@ impl<'a> ImageRef<'a> {
     // The alpha flag, as the Rust's Image::new derives it. Rules out: the flag of another layout; the flag of a square's pixels.
     pub fn has_alpha(self) -> Flagged
         ensures number { λ r. ⌜ flaggedNumber r ≡ pictureNumber (self .entry .dims) (length (now (self .entry .pixels))) ⌝ }
-        ensures flag { λ r. ⌜ flaggedFlag r ≡ flagIf (pictureNumber (self .entry .dims) (length (now (self .entry .pixels)))) (hasAlpha (self .entry .layout) (now (self .entry .pixels)) (self .entry .dims .width * self .entry .dims .height)) ⌝ }
+        ensures flag { λ r. ⌜ flaggedFlag r ≡ pictureFlag (self .entry .dims) (self .entry .layout) (now (self .entry .pixels)) ⌝ }
     {
         flag_of(self.dims, self.layout, self.pixels)
     }
@@ -141,8 +128,8 @@ impl<'a> ImageRef<'a> {
     // The Rust's Image::crop. Rules out: the flag of another layout; the output left as it was.
     pub fn crop(self, rect: Rect, out: &mut [u8]) -> Flagged
         ensures number { λ r. ⌜ flaggedNumber r ≡ cropNumber (self .entry .dims) rect (length (now (self .entry .pixels))) (length (now (out .entry))) ⌝ }
-        ensures flag { λ r. ⌜ flaggedFlag r ≡ flagIf (cropNumber (self .entry .dims) rect (length (now (self .entry .pixels))) (length (now (out .entry)))) (hasAlpha (self .entry .layout) (cropped (self .entry .dims) rect (now (self .entry .pixels))) (rect .width * rect .height)) ⌝ }
-        ensures out { λ _. ⌜ now (out .exit) ≡ bufferIf (cropNumber (self .entry .dims) rect (length (now (self .entry .pixels))) (length (now (out .entry)))) (cropped (self .entry .dims) rect (now (self .entry .pixels))) (now (out .entry)) ⌝ }
+        ensures flag { λ r. ⌜ flaggedFlag r ≡ cropFlag (self .entry .dims) (self .entry .layout) rect (now (self .entry .pixels)) (length (now (out .entry))) ⌝ }
+        ensures out { λ _. ⌜ now (out .exit) ≡ cropOut (self .entry .dims) rect (now (self .entry .pixels)) (now (out .entry)) ⌝ }
     {
         crop_of(self.dims, self.layout, self.pixels, rect, out)
     }
@@ -150,9 +137,9 @@ impl<'a> ImageRef<'a> {
     // The Rust's Image::resize. Rules out: a picture of the source's own size; the work values left as they were.
     pub fn resize(self, target: Dimensions, out: &mut [u8], work: &mut [u32]) -> Flagged
         ensures number { λ r. ⌜ flaggedNumber r ≡ resizeNumber (self .entry .dims) target (length (now (self .entry .pixels))) (length (now (out .entry))) (length (now (work .entry))) ⌝ }
-        ensures flag { λ r. ⌜ flaggedFlag r ≡ flagIf (resizeNumber (self .entry .dims) target (length (now (self .entry .pixels))) (length (now (out .entry))) (length (now (work .entry)))) (resizedFlag (self .entry .dims) (self .entry .layout) target (now (self .entry .pixels))) ⌝ }
-        ensures out { λ _. ⌜ now (out .exit) ≡ bufferIf (resizeNumber (self .entry .dims) target (length (now (self .entry .pixels))) (length (now (out .entry))) (length (now (work .entry)))) (resized (self .entry .dims) (self .entry .layout) target (now (self .entry .pixels))) (now (out .entry)) ⌝ }
-        ensures work { λ _. ⌜ now (work .exit) ≡ bufferIf (resizeNumber (self .entry .dims) target (length (now (self .entry .pixels))) (length (now (out .entry))) (length (now (work .entry)))) (resizedWork (self .entry .dims) (self .entry .layout) target (now (self .entry .pixels)) (now (work .entry))) (now (work .entry)) ⌝ }
+        ensures flag { λ r. ⌜ flaggedFlag r ≡ resizeFlag (self .entry .dims) (self .entry .layout) target (now (self .entry .pixels)) (length (now (out .entry))) (length (now (work .entry))) ⌝ }
+        ensures out { λ _. ⌜ now (out .exit) ≡ resizeOut (self .entry .dims) (self .entry .layout) target (now (self .entry .pixels)) (now (out .entry)) (length (now (work .entry))) ⌝ }
+        ensures work { λ _. ⌜ now (work .exit) ≡ resizeWork (self .entry .dims) (self .entry .layout) target (now (self .entry .pixels)) (length (now (out .entry))) (now (work .entry)) ⌝ }
     {
         resize_of(self.dims, self.layout, self.pixels, target, out, work)
     }

@@ -43,9 +43,8 @@ use denote.Triple.Spec.{Meets, tripleOf}
 use denote.Triple.Statement.{Contract, Triple}
 use denote.Triple.Table.{entered, cited}
 use denote.Triple.Walked.{Stays, stay-none, gave-slice, walkOf, goes-none, goes-gave-slice, Walks, ends-at, walked, walk-meets}
-use Rattle.pixels.specs.Refusals.{flaggedNumber, flaggedFlag, flagIf, bufferIf}
-use Rattle.pixels_alpha.specs.Alpha.{hasAlpha}
-use Rattle.pixels_crop.specs.Crop.{cropped, cropNumber}
+use Rattle.pixels.specs.Refusals.{flaggedNumber, flaggedFlag}
+use Rattle.pixels_crop.specs.Crop.{cropNumber, cropFlag, cropOut}
 use Rattle.pixels.specs.declared.Flagged.{Flagged}
 use Rattle.pixels.specs.declared.Rect.{Rect}
 use Rattle.pixels.specs.declared.Dimensions.{Dimensions}
@@ -136,10 +135,10 @@ module _ {M : Type 1} (𝓤 : URA M) (H : Heap 𝓤) (A : Atoms 𝓤) (W : Given
   Number r = flaggedNumber r ≡ n
 
   abbrev Flag : Flagged → Type 0
-  Flag r = flaggedFlag r ≡ flagIf n (hasAlpha (d .layout) (cropped (d .dims) rect (now (d .pixels))) (rect .width * rect .height))
+  Flag r = flaggedFlag r ≡ cropFlag (d .dims) (d .layout) rect (now (d .pixels)) (length (now x))
 
   abbrev Out : List ℕ → Type 0
-  Out zs = zs ≡ bufferIf n (cropped (d .dims) rect (now (d .pixels))) (now x)
+  Out zs = zs ≡ cropOut (d .dims) rect (now (d .pixels)) (now x)
 
   exits : (r : Flagged) (w : Val) (zs : List ℕ) → Number r → Flag r → Out zs → length zs ≡ length (now x) → Is R.the-row rect (machR ∷ [])
       → ent 𝓤 (⋆ 𝓤 H A ((‵ (flft κ q) ⊛ ‵ (flft κ′ q′) ⊛ ‵ ftrue) ∷ ‵ (finally u8 (x .name) zs) ∷ ‵ Own ∷ ‵ (F.the-row .own r (w ∷ [])) ∷ [])) (Post w)

@@ -41,8 +41,8 @@ use denote.Triple.Table.{entered, cited}
 use denote.Triple.Walked.{Stays, stay-none, walkOf, goes-none, Walks, ends-at, walked, walk-meets}
 use denote.Exit.{yes}
 use denote.Triple.Clauses.{ensured, lasts}
-use Rattle.pixels.specs.Refusals.{flaggedNumber, flaggedFlag, flagIf}
-use Rattle.pixels_alpha.specs.Alpha.{hasAlpha, pictureNumber}
+use Rattle.pixels.specs.Refusals.{flaggedNumber, flaggedFlag}
+use Rattle.pixels_alpha.specs.Alpha.{pictureNumber, pictureFlag}
 use Rattle.pixels.specs.declared.Flagged.{Flagged}
 use Rattle.job_image_ref.specs.declared.ImageRef.{ImageRef}
 use Rattle.job_image_ref.proofs.Clauses.{says-two}
@@ -103,7 +103,7 @@ module _ {M : Type 1} (𝓤 : URA M) (H : Heap 𝓤) (A : Atoms 𝓤) (W : Given
   Number r = flaggedNumber r ≡ n
 
   abbrev Flag : Flagged → Type 0
-  Flag r = flaggedFlag r ≡ flagIf n (hasAlpha (d .layout) (now (d .pixels)) (d .dims .width * d .dims .height))
+  Flag r = flaggedFlag r ≡ pictureFlag (d .dims) (d .layout) (now (d .pixels))
 
   abbrev Post : Val → SProp 𝓤
   Post = walkOf 𝓤 H A ok.ended stayed (ok.clauses 𝓤 H A mem run) .post (((κ, tt), (q, tt), tt, (d, tt), (mach ∷ [], tt)), tt)

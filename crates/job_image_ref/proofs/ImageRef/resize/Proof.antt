@@ -43,9 +43,8 @@ use denote.Triple.Spec.{Meets, tripleOf}
 use denote.Triple.Statement.{Contract, Triple}
 use denote.Triple.Table.{entered, cited}
 use denote.Triple.Walked.{Stays, stay-none, gave-slice, walkOf, goes-none, goes-gave-slice, Walks, ends-at, walked, walk-meets}
-use Rattle.pixels.specs.Refusals.{flaggedNumber, flaggedFlag, flagIf, bufferIf}
-use Rattle.job_claim.specs.Rows.{resized, resizedFlag}
-use Rattle.job_resize.specs.Resize.{resizeNumber, resizedWork}
+use Rattle.pixels.specs.Refusals.{flaggedNumber, flaggedFlag}
+use Rattle.job_resize.specs.Resize.{resizeNumber, resizeFlag, resizeOut, resizeWork}
 use Rattle.pixels.specs.declared.Flagged.{Flagged}
 use Rattle.pixels.specs.declared.Dimensions.{Dimensions}
 use Rattle.pixels.specs.declared.PixelLayout.{PixelLayout}
@@ -136,13 +135,13 @@ module _ {M : Type 1} (𝓤 : URA M) (H : Heap 𝓤) (A : Atoms 𝓤) (W : Given
   Number r = flaggedNumber r ≡ n
 
   abbrev Flag : Flagged → Type 0
-  Flag r = flaggedFlag r ≡ flagIf n (resizedFlag (d .dims) (d .layout) target (now (d .pixels)))
+  Flag r = flaggedFlag r ≡ resizeFlag (d .dims) (d .layout) target (now (d .pixels)) (length (now x)) (length (now y))
 
   abbrev Out : List ℕ → Type 0
-  Out zs = zs ≡ bufferIf n (resized (d .dims) (d .layout) target (now (d .pixels))) (now x)
+  Out zs = zs ≡ resizeOut (d .dims) (d .layout) target (now (d .pixels)) (now x) (length (now y))
 
   abbrev Work : List ℕ → Type 0
-  Work ws = ws ≡ bufferIf n (resizedWork (d .dims) (d .layout) target (now (d .pixels)) (now y)) (now y)
+  Work ws = ws ≡ resizeWork (d .dims) (d .layout) target (now (d .pixels)) (length (now x)) (now y)
 
   exits : (r : Flagged) (w : Val) (zs ws : List ℕ) → Number r → Flag r → Out zs → Work ws → length zs ≡ length (now x) → length ws ≡ length (now y) → Is S.the-row target (machT ∷ [])
       → ent 𝓤 (⋆ 𝓤 H A ((‵ (flft κ q) ⊛ ‵ (flft κ′ q′) ⊛ ‵ (flft κ″ q″) ⊛ ‵ ftrue) ∷ ‵ (finally u8 (x .name) zs) ∷ ‵ (finally u32 (y .name) ws) ∷ ‵ Own ∷ ‵ (F.the-row .own r (w ∷ [])) ∷ [])) (Post w)
