@@ -56,10 +56,12 @@ shrink-row-requires : tie.Need-shrink-row-requires
 shrink-row-requires c κs =
     let t = c .before .before .before in
     let k = t .before .before .before .before in
-    let a = k .before .args in
-    (asks (a .layout) (a .«crop-width») (a .«target-width») (a .row .now) (a .half .now) _ (c .before .before .places .ensures)
-    (λ i. omega (arith, k .shared-slice-known .given i))
-    (rw (t .enum-told .given .1) at (t .before .before .check-import .ensures)), c .before .if1 .taken)
+    let a = k .before .args in (
+      asks (a .layout) (a .«crop-width») (a .«target-width») (a .row .now) (a .half .now) _ (c .before .before .places .ensures)
+          (λ i. omega (arith, k .shared-slice-known .given i))
+          (rw (t .enum-told .given .1) at (t .before .before .check-import .ensures)),
+      c .before .if1 .taken,
+    )
 
 same-length : tie.Need-same-length
 same-length c = search needs
@@ -78,10 +80,12 @@ grow-row-requires : tie.Need-grow-row-requires
 grow-row-requires c κs =
     let t = c .before .before .before in
     let k = t .before .before .before .before in
-    let a = k .before .args in
-    (asks (a .layout) (a .«crop-width») (a .«target-width») (a .row .now) (a .half .now) _ (c .before .before .places .ensures)
-    (λ i. omega (arith, k .shared-slice-known .given i))
-    (rw (t .enum-told .given .1) at (t .before .before .check-import .ensures)), c .before .if1 .left)
+    let a = k .before .args in (
+      asks (a .layout) (a .«crop-width») (a .«target-width») (a .row .now) (a .half .now) _ (c .before .before .places .ensures)
+          (λ i. omega (arith, k .shared-slice-known .given i))
+          (rw (t .enum-told .given .1) at (t .before .before .check-import .ensures)),
+      c .before .if1 .left,
+    )
 
 returns-2 : tie.Need-returns-2
 unfolding importHalf
