@@ -1,5 +1,4 @@
-// A row comes in (document 01; the Rust: Rescaler::import_row of geometry.rs, libwebp's WebPRescalerImportRowShrink_C and
-// WebPRescalerImportRowExpand_C): matted as its bytes are read, the four lanes at once. Work values wrap.
+// A row comes in (document 01; the Rust: Rescaler::import_row of geometry.rs): matted as its bytes are read, the four lanes at once. Work values wrap.
 use arithmetic::frac;
 use arithmetic::matte;
 use arithmetic::mult_fix;
@@ -115,6 +114,7 @@ struct Gathered {
 }
 
 // Sums pixels from `from` on until they make `need`, m each; `last` and `base` are the last pixel. Bytes in their order, the alpha apart.
+// The Rust: the inner loop of Rescaler::import_row_shrink.
 fn gather(row: &[u8], m: usize, need: usize, from: usize, pa: usize) -> Gathered
     requires { ⌜ GatherAsks (now row) (length (now row) / pixelLanes) m need from pa ⌝ }
     ensures { λ r. ⌜ Gathers (now (row .entry)) m need from pa (r .sum) (r .last) (r .alpha) (r .base) (r .next) (r .got) ⌝ }
@@ -148,7 +148,8 @@ struct Ended {
     carry: u32,
 }
 
-// The value and the carry of one lane: what `over` parts of the last pixel are goes to the next column.
+// The value and the carry of one lane: what `over` parts of the last pixel are goes to the next column. The Rust: frac_part, frow[x_out] and sum of
+// Rescaler::import_row_shrink.
 fn finish(m: u32, scale: u32, over: u32, sum: u32, last: u32) -> Ended
     ensures { λ r. ⌜ Finished m scale over sum last (r .value) (r .carry) ⌝ }
 {
@@ -222,7 +223,7 @@ fn put4(half: &mut [u32], j: usize, v: Quad)
     half[i + 3] = v.d;
 }
 
-// Every column where the width does not grow.
+// Every column where the width does not grow. The Rust: Rescaler::import_row_shrink; libwebp: WebPRescalerImportRowShrink_C. Its `sum` carries on here as `carry`.
 fn shrink_row(row: &[u8], n: usize, m: usize, p: Places, half: &mut [u32])
     requires { ⌜ RowAsks (now row) (now half) n m p ⌝ }
     requires { ⌜ m ≤ n ⌝ }
@@ -244,7 +245,7 @@ fn shrink_row(row: &[u8], n: usize, m: usize, p: Places, half: &mut [u32])
     }
 }
 
-// left×keep + right×rest of one lane.
+// left×keep + right×rest of one lane. The Rust has right×x_add + (left − right)×accum, which wraps to the same.
 fn blend(left: u32, right: u32, keep: u32, rest: u32) -> u32
     ensures { λ r. ⌜ r ≡ wrapAdd (wrapMul left keep) (wrapMul right rest) ⌝ }
 {
@@ -271,7 +272,7 @@ fn blend4(s: Stand, rest: u32) -> Quad
     }
 }
 
-// The pixel to the right of the first; of one pixel, itself: no pixel past the crop is read.
+// The pixel to the right of the first; of one pixel, itself: no pixel past the crop is read. The Rust: `right` of Rescaler::import_row_expand.
 fn second(n: usize) -> usize
     requires { ⌜ 0 < n ⌝ }
     ensures { λ r. ⌜ Second n r ⌝ }
@@ -302,7 +303,7 @@ fn advance(row: &[u8], span: u32, step: u32, mut s: Stand, p: Places) -> Stand
     s
 }
 
-// Every column where the width grows.
+// Every column where the width grows. The Rust: Rescaler::import_row_expand; libwebp: WebPRescalerImportRowExpand_C.
 fn grow_row(row: &[u8], n: usize, m: usize, p: Places, half: &mut [u32])
     requires { ⌜ RowAsks (now row) (now half) n m p ⌝ }
     requires { ⌜ n < m ⌝ }
@@ -328,18 +329,6 @@ fn grow_row(row: &[u8], n: usize, m: usize, p: Places, half: &mut [u32])
     }
 }
 
-// Every column, either way.
-fn write_row(row: &[u8], n: usize, m: usize, p: Places, half: &mut [u32])
-    requires { ⌜ RowAsks (now row) (now half) n m p ⌝ }
-    ensures { λ _. ⌜ now (half .exit) ≡ writtenRow p n m (now (row .entry)) (now (half .entry)) ⌝ }
-{
-    if m <= n {
-        shrink_row(row, n, m, p, half);
-        return;
-    }
-    grow_row(row, n, m, p, half);
-}
-
 // The tests, in the order of document 01's table.
 fn check_import(crop_width: u32, target_width: u32, bytes: usize, room: usize) -> Checked
     ensures { λ r. ⌜ checkedNumber r ≡ importNumber «crop_width» «target_width» bytes room ⌝ }
@@ -360,6 +349,7 @@ fn check_import(crop_width: u32, target_width: u32, bytes: usize, room: usize) -
 }
 
 // One row of the crop, matted as it is read, into a half. A row as wide as the target goes the same way: matting changes it.
+// The Rust: Rescaler::import_row; libwebp: WebPRescalerImportRow.
 // Rules out: a carry rounded down; a row of the crop's width copied as it is; two lanes exchanged; sums that saturate.
 pub fn import_row(
     layout: PixelLayout,
@@ -375,7 +365,14 @@ pub fn import_row(
     match checked {
         Checked::Refused(why) => Checked::Refused(why),
         Checked::Fit => {
-            write_row(row, crop_width as usize, target_width as usize, layout.places(), half);
+            let n = crop_width as usize;
+            let m = target_width as usize;
+            let p = layout.places();
+            if m <= n {
+                shrink_row(row, n, m, p, half);
+                return Checked::Fit;
+            }
+            grow_row(row, n, m, p, half);
             Checked::Fit
         }
     }

@@ -1,6 +1,5 @@
 -- `check_add`: the tests before a return passed and its own did not, so the number is its. Assumes nothing.
 use mathlib.Core.Path.{sym, _∙_}
-use native.Mathlib.Omega.{arith}
 use borrow.Author.Needs.{needs}
 use borrow.Author.Tests.{lt-ltb, le-ltb}
 use Rattle.pixels.proofs.Causes.{first-at, first-none}

@@ -1,7 +1,7 @@
 -- `check_import`: the tests before a return passed and its own did not, so the number is its. Assumes nothing.
 use Prim.Native.Nat.{ℕ}
 use mathlib.Core.Path.{_≡_, sym, _∙_}
-use mathlib.Core.Bool.{true, false, _||_, or-true}
+use mathlib.Core.Bool.{false, _||_, or-true}
 use borrow.Author.Needs.{needs}
 use borrow.Author.Tests.{lt-ltb, le-ltb}
 use Rattle.pixels.specs.Sizes.{badSide}

@@ -52,33 +52,59 @@ enum-told c = search needs
 places-requires : tie.Need-places-requires
 places-requires c κs = search needs
 
-write-row-requires : tie.Need-write-row-requires
-write-row-requires c κs =
-    let t = c .before .before in
+shrink-row-requires : tie.Need-shrink-row-requires
+shrink-row-requires c κs =
+    let t = c .before .before .before in
     let k = t .before .before .before .before in
-    let a = k .before .args in
-    asks (a .layout) (a .«crop-width») (a .«target-width») (a .row .now) (a .half .now) _ (c .before .places .ensures)
-    (λ i. omega (arith, k .shared-slice-known .given i))
-    (rw (t .enum-told .given .1) at (t .before .before .check-import .ensures))
-
-returns : tie.Need-returns
-unfolding importHalf
-returns c =
-    buffer-refused (c .before .checked .given .0 .0) _ _ _
-    (sym (rw (c .before .checked .given .1) at (c .before .before .before .check-import .ensures)))
+    let a = k .before .args in (
+      asks (a .layout) (a .«crop-width») (a .«target-width») (a .row .now) (a .half .now) _ (c .before .before .places .ensures)
+          (λ i. omega (arith, k .shared-slice-known .given i))
+          (rw (t .enum-told .given .1) at (t .before .before .check-import .ensures)),
+      c .before .if1 .taken,
+    )
 
 same-length : tie.Need-same-length
 same-length c = search needs
 
-returns-2 : tie.Need-returns-2
+returns : tie.Need-returns
 unfolding importHalf
-returns-2 c =
-    let t = c .before .before .before .before .before in
+returns c =
+    let t = c .before .before .before .before .before .before in
     let k = t .before .before .before .before in
     let a = k .before .args in
     buffer-written _ _ _ (sym (rw (t .enum-told .given .1) at (t .before .before .check-import .ensures)))
-    (by-layout (a .layout) (a .«crop-width») (a .«target-width») (a .row .now) (a .half .now) _ (c .before .before .before .before .places .ensures)
-    (λ i. omega (arith, k .shared-slice-known .given i)) _ (c .before .before .write-row .ensures))
+    (by-layout (a .layout) (a .«crop-width») (a .«target-width») (a .row .now) (a .half .now) _ (c .before .before .before .before .before .places .ensures)
+    (λ i. omega (arith, k .shared-slice-known .given i)) _ (c .before .before .shrink-row .ensures))
+
+grow-row-requires : tie.Need-grow-row-requires
+grow-row-requires c κs =
+    let t = c .before .before .before in
+    let k = t .before .before .before .before in
+    let a = k .before .args in (
+      asks (a .layout) (a .«crop-width») (a .«target-width») (a .row .now) (a .half .now) _ (c .before .before .places .ensures)
+          (λ i. omega (arith, k .shared-slice-known .given i))
+          (rw (t .enum-told .given .1) at (t .before .before .check-import .ensures)),
+      c .before .if1 .left,
+    )
+
+returns-2 : tie.Need-returns-2
+unfolding importHalf
+returns-2 c =
+    buffer-refused (c .before .checked .given .0 .0) _ _ _
+    (sym (rw (c .before .checked .given .1) at (c .before .before .before .check-import .ensures)))
+
+same-length-2 : tie.Need-same-length-2
+same-length-2 c = search needs
+
+returns-3 : tie.Need-returns-3
+unfolding importHalf
+returns-3 c =
+    let t = c .before .before .before .before .before .before in
+    let k = t .before .before .before .before in
+    let a = k .before .args in
+    buffer-written _ _ _ (sym (rw (t .enum-told .given .1) at (t .before .before .check-import .ensures)))
+    (by-layout (a .layout) (a .«crop-width») (a .«target-width») (a .row .now) (a .half .now) _ (c .before .before .before .before .before .places .ensures)
+    (λ i. omega (arith, k .shared-slice-known .given i)) _ (c .before .before .grow-row .ensures))
 
 pub import-row-spec : {M : Type 1} → statement M
 import-row-spec =
@@ -88,7 +114,10 @@ import-row-spec =
     enum-known-checked
     enum-told
     places-requires
-    write-row-requires
-    returns
+    shrink-row-requires
     same-length
-    returns-2)
+    returns
+    grow-row-requires
+    returns-2
+    same-length-2
+    returns-3)
