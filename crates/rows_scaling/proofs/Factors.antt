@@ -8,8 +8,7 @@ use native.Mathlib.Omega.{arith}
 use native.Mathlib.Nat.{mul-le-mul-left, mul-le-mul-right, mul-zero, zero-div, le-refl}
 use native.Mathlib.Numerals.{add-one}
 use lib.Dec.{eqb, lit<}
-use lib.ListN.{getD, take, drop}
-use lib.Seq.{getD-take, getD-drop}
+use lib.ListN.{getD, drop}
 use borrow.Author.Tests.{le-leb, lt-leb, eq-eqb, ne-eqb}
 use Rattle.arithmetic.specs.Word.{wrapSub, wrapMul}
 use Rattle.arithmetic.specs.FixedPoint.{MULT, FLOOR, FRAC}
@@ -22,7 +21,7 @@ use Rattle.arithmetic.proofs.Quotients.{div-bound}
 use Rattle.arithmetic.proofs.FixedPoints.{frac-exact, frac-zero}
 use Rattle.rows.specs.Output.{clamp, restDown, share, ratio, byteDown, leftDown, restUp, mixed, blend, byteUp}
 use Rattle.rows.specs.WorkRows.{Scale, halfOf, byteOut, rowLeft}
-use Rattle.rows_scaling.specs.Inner.Scaling.{shrinkLeft, shrinkByte, lowByte, growByte}
+use Rattle.rows_scaling.specs.Inner.Scaling.{RoomAsks, GrowAsks, shrinkLeft, shrinkByte, lowByte, growByte}
 
 -- ---- two words weighed by 2^32 in all
 pub blend-most : (a b : ℕ) {x y : ℕ} → a + b ≡ 2 ^ 32 → x < 2 ^ 32 → y < 2 ^ 32 → a * x + b * y ≤ 2 ^ 32 * 0xffff_ffff
@@ -40,11 +39,11 @@ pub mixed-none : (x y : ℕ) → mixed 0 x y ≡ x
 unfolding mixed
 mixed-none x y = omega arith
 
-none-older : (factor : ℕ) (newer older : List ℕ) (x : ℕ) → growByte 0 factor newer newer x ≡ growByte 0 factor newer older x
+none-older : (factor : ℕ) (work : List ℕ) (new old x : ℕ) → growByte 0 factor work new new x ≡ growByte 0 factor work new old x
 unfolding growByte
-none-older factor newer older x =
-    ap (λ (t : ℕ). clamp (MULT t factor))
-    (mixed-none (getD newer x 0) (getD newer x 0) ∙ sym (mixed-none (getD newer x 0) (getD older x 0)))
+none-older factor work new old x =
+    let n : ℕ = getD work (new + x) 0 in
+    ap (λ (t : ℕ). clamp (MULT t factor)) (mixed-none n n ∙ sym (mixed-none n (getD work (old + x) 0)))
 
 -- ---- d = 0 is no case of its own: its factors are 0
 floor-none : (x : ℕ) → FLOOR x 0 ≡ 0
@@ -139,59 +138,42 @@ module _ (s : Scale) (u y : ℕ) (work : List ℕ) (down : s .g ≤ s .h) where
     take-work e = simp (le-leb (s .g) (s .h) down, eq-eqb full (2 ^ 32) one) e
 
 -- ---- g > h: the same
-pub half-most : (w c : ℕ) → halfOf w c ≤ w
+half-most : (w c : ℕ) → halfOf w c ≤ w
 half-most w c = go (eqb (c % 2) 0)
   where
     go : (b : Bool) → cond b w 0 ≤ w
     go true = le-refl w
     go false = omega arith
 
--- a half as the code lends it, and a value of it
-pub half-lent : (work : List ℕ) (w : ℕ) {at a : ℕ} → at ≡ a → take (at + w - at) (drop at work) ≡ take w (drop a work)
-half-lent work w {at} {a} e =
-    let n-is : at + w - at ≡ w = omega arith in
-    ap₂ (λ (n k : ℕ). take n (drop k work)) n-is e
-
-part-at : (work : List ℕ) (at w x : ℕ) → x < w → getD (take w (drop at work)) x 0 ≡ getD work (at + x) 0
-part-at work at w x l = getD-take w (drop at work) x 0 l ∙ getD-drop at work x 0
+-- each half lies within the work rows
+pub grow-room : (c e : ℕ) {work out : List ℕ} {w new old : ℕ} → RoomAsks work out w → new ≡ halfOf w c → old ≡ halfOf w e → GrowAsks work new old out w
+grow-room c e {w = w} r n o =
+    record { newer = omega (arith, r .halves, n, half-most w c); older = omega (arith, r .halves, o, half-most w e); exact = r .exact }
 
 module _ (s : Scale) (u y : ℕ) (work : List ℕ) (up : s .h < s .g) where
   abbrev rest : ℕ
   rest = restUp (s .h) (s .g) u y
-
-  -- the halves of the newer and the older row
-  abbrev new : ℕ
-  new = halfOf (s .w) (u - 1)
-
-  abbrev old : ℕ
-  old = halfOf (s .w) u
 
   -- the halves stay
   pub halves-stay : work ≡ rowLeft s u y work
   unfolding rowLeft
   halves-stay = simp (lt-leb (s .g) (s .h) up)
 
-  module _ {b factor : ℕ} {newer older : List ℕ} (b-is : b ≡ FRAC rest (s .g - 1)) (factor-is : factor ≡ FRAC 1 (s .span))
-      (newer-is : newer ≡ take (s .w) (drop new work)) (older-is : older ≡ take (s .w) (drop old work)) where
-    new-at : (x : ℕ) → x < s .w → getD newer x 0 ≡ getD work (new + x) 0
-    new-at x l = ap (λ (t : List ℕ). getD t x 0) newer-is ∙ part-at work new (s .w) x l
-
-    old-at : (x : ℕ) → x < s .w → getD older x 0 ≡ getD work (old + x) 0
-    old-at x l = ap (λ (t : List ℕ). getD t x 0) older-is ∙ part-at work old (s .w) x l
-
-    up-byte : (x : ℕ) → x < s .w → growByte b factor newer older x ≡ byteOut s u y work x
+  module _ {b factor new old : ℕ} (b-is : b ≡ FRAC rest (s .g - 1)) (factor-is : factor ≡ FRAC 1 (s .span))
+      (new-is : new ≡ halfOf (s .w) (u - 1)) (old-is : old ≡ halfOf (s .w) u) where
+    up-byte : (x : ℕ) → growByte b factor work new old x ≡ byteOut s u y work x
     unfolding growByte byteOut byteUp
-    up-byte x l =
-        let n : ℕ = getD work (new + x) 0 in
-        let o : ℕ = getD work (old + x) 0 in
-        let j-is : mixed b (getD newer x 0) (getD older x 0) ≡ blend (s .g) rest n o = rw (new-at x l, old-at x l, b-is) (blend-is (s .g) rest n o) in
+    up-byte x =
+        let n : ℕ = getD work (halfOf (s .w) (u - 1) + x) 0 in
+        let o : ℕ = getD work (halfOf (s .w) u + x) 0 in
+        let j-is : mixed b (getD work (new + x) 0) (getD work (old + x) 0) ≡ blend (s .g) rest n o = rw (new-is, old-is, b-is) (blend-is (s .g) rest n o) in
         simp (lt-leb (s .g) (s .h) up) (ap₂ (λ (j f : ℕ). clamp (MULT j f)) j-is factor-is)
 
-    pub grow-out : {out : List ℕ} → out ≡ tabulate (growByte b factor newer older) (s .w) → out ≡ tabulate (byteOut s u y work) (s .w)
-    grow-out e = e ∙ tabulate-cong (growByte b factor newer older) (byteOut s u y work) (s .w) up-byte
+    pub grow-out : {out : List ℕ} → out ≡ tabulate (growByte b factor work new old) (s .w) → out ≡ tabulate (byteOut s u y work) (s .w)
+    grow-out e = e ∙ tabulate-cong (growByte b factor work new old) (byteOut s u y work) (s .w) (λ x l. up-byte x)
 
-    pub level-out : {out : List ℕ} → b ≡ 0 → out ≡ tabulate (growByte 0 factor newer newer) (s .w) → out ≡ tabulate (byteOut s u y work) (s .w)
+    pub level-out : {out : List ℕ} → b ≡ 0 → out ≡ tabulate (growByte 0 factor work new new) (s .w) → out ≡ tabulate (byteOut s u y work) (s .w)
     level-out z e =
         e
-        ∙ tabulate-cong (growByte 0 factor newer newer) (byteOut s u y work) (s .w)
-        (λ x l. none-older factor newer older x ∙ ap (λ (t : ℕ). growByte t factor newer older x) (sym z) ∙ up-byte x l)
+        ∙ tabulate-cong (growByte 0 factor work new new) (byteOut s u y work) (s .w)
+        (λ x l. none-older factor work new old x ∙ ap (λ (t : ℕ). growByte t factor work new old x) (sym z) ∙ up-byte x)

@@ -59,18 +59,18 @@ module _ (crop target : Dimensions) (u y : ℕ) (out work : List ℕ) where
   unfolding scaledOut scaledWork
   scale-made e = (simp e, simp e)
 
-  pub scale-refused : (why : Refusal) → result ≡ number why
+  pub scale-refused : (why : Refusal) → number why ≡ result
       → (number why ≡ result) × ((out ≡ scaledOut crop target u y out work) × (work ≡ scaledWork crop target u y (length out) work))
   unfolding scaledOut scaledWork
-  scale-refused why e = (sym e, (buffer-refused why _ _ out e .1, buffer-refused why _ _ work e .1))
+  scale-refused why e = (e, (buffer-refused why _ _ out (sym e) .1, buffer-refused why _ _ work (sym e) .1))
 
   -- ---- past the tests; sp is what the code has for the span
-  module _ (e : result ≡ 0) {sp : ℕ} (sp-is : sp ≡ span (crop .width) (target .width)) where
+  module _ (e : 0 ≡ result) {sp : ℕ} (sp-is : sp ≡ span (crop .width) (target .width)) where
     abbrev by : Scale
     by = record { span = sp; h = crop .height; g = target .height; w = halfValues pixelLanes (target .width) }
 
     passed : Passed crop target u y (length out) (length work)
-    passed = passed-of crop target u y (length out) (length work) e
+    passed = passed-of crop target u y (length out) (length work) (sym e)
 
     pub row-asks : RowAsks by u y
     row-asks =
@@ -86,4 +86,4 @@ module _ (crop target : Dimensions) (u y : ℕ) (out work : List ℕ) where
 
     pub scale-done : {out′ work′ : List ℕ} → out′ ≡ tabulate (byteOut by u y work) (by .w) → work′ ≡ rowLeft by u y work
         → (0 ≡ result) × ((out′ ≡ scaledOut crop target u y out work) × (work′ ≡ scaledWork crop target u y (length out) work))
-    scale-done o k = let made = scale-made e in (sym e, (rw sp-is at o ∙ sym (made .0), rw sp-is at k ∙ sym (made .1)))
+    scale-done o k = let made = scale-made (sym e) in (e, (rw sp-is at o ∙ sym (made .0), rw sp-is at k ∙ sym (made .1)))

@@ -84,15 +84,15 @@ fn take_lanes(work: &mut [u32], w: usize, out: &mut [u8])
     }
 }
 
-// Heights that grow, d = 0: the newer row alone. The first loop of export_row_expand.
-fn level_lanes(newer: &[u32], w: usize, factor: u32, signed: bool, out: &mut [u8])
-    requires { ⌜ GrowAsks (now newer) (now newer) (now out) w ⌝ }
+// Heights that grow, d = 0: the newer row alone, from place `new` on. The first loop of export_row_expand.
+fn level_lanes(work: &[u32], new: usize, w: usize, factor: u32, signed: bool, out: &mut [u8])
+    requires { ⌜ GrowAsks (now work) new new (now out) w ⌝ }
     requires { ⌜ Halved signed factor ⌝ }
-    ensures { λ _. ⌜ now (out .exit) ≡ tabulate (growByte 0 factor (now (newer .entry)) (now (newer .entry))) w ⌝ }
+    ensures { λ _. ⌜ now (out .exit) ≡ tabulate (growByte 0 factor (now (work .entry)) new new) w ⌝ }
 {
     let mut k = 0usize;
     while k < w {
-        out[k] = byte_of(mult_fix(newer[k], factor), signed);
+        out[k] = byte_of(mult_fix(work[new + k], factor), signed);
         k += 1;
     }
 }
@@ -105,25 +105,27 @@ fn blended(newer: u32, older: u32, a: u32, b: u32) -> u32
     ((a as u64 * newer as u64 + b as u64 * older as u64 + 2147483648) / 4294967296) as u32
 }
 
-// Heights that grow: the newer row and the older one blended, b of the older. The second loop of export_row_expand.
+// Heights that grow: the newer row and the older one, from places `new` and `old` on, blended, b of the older. The second loop of export_row_expand.
 fn blend_lanes(
-    newer: &[u32],
-    older: &[u32],
+    work: &[u32],
+    new: usize,
+    old: usize,
     w: usize,
     b: u32,
     factor: u32,
     signed: bool,
     out: &mut [u8],
 )
-    requires { ⌜ GrowAsks (now newer) (now older) (now out) w ⌝ }
+    requires { ⌜ GrowAsks (now work) new old (now out) w ⌝ }
     requires { ⌜ 0 < b ⌝ }
     requires { ⌜ Halved signed factor ⌝ }
-    ensures { λ _. ⌜ now (out .exit) ≡ tabulate (growByte b factor (now (newer .entry)) (now (older .entry))) w ⌝ }
+    ensures { λ _. ⌜ now (out .exit) ≡ tabulate (growByte b factor (now (work .entry)) new old) w ⌝ }
 {
     let a = (4294967296u64 - b as u64) as u32;
     let mut k = 0usize;
     while k < w {
-        out[k] = byte_of(mult_fix(blended(newer[k], older[k], a, b), factor), signed);
+        let j = blended(work[new + k], work[old + k], a, b);
+        out[k] = byte_of(mult_fix(j, factor), signed);
         k += 1;
     }
 }
@@ -215,16 +217,14 @@ fn grow_row(s: RowScale, used: u32, row: u32, out: &mut [u8], work: &[u32])
     let b = frac(d, s.g - 1);
     let factor = frac(1, s.span);
     let w = s.w;
-    let at = half_of(w, used - 1);
-    let newer = &work[at..at + w];
-    let from = half_of(w, used);
-    let older = &work[from..from + w];
+    let new = half_of(w, used - 1);
+    let old = half_of(w, used);
     let signed = s.span != 2;
     if b == 0 {
-        level_lanes(newer, w, factor, signed, out);
+        level_lanes(work, new, w, factor, signed, out);
         return;
     }
-    blend_lanes(newer, older, w, b, factor, signed, out);
+    blend_lanes(work, new, old, w, b, factor, signed, out);
 }
 
 // Makes a row of w values, whatever the lanes of its pixels. The Rust: Rescaler::export_row.

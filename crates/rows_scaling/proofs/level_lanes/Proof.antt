@@ -3,19 +3,22 @@ use Rattle.rows_scaling.proofs.Clamp.{MULT-halved}
 use Rattle.rows_scaling.proofs.BlendLanes.{Grown, grow-first, level-turn}
 use Rattle.arithmetic.proofs.Stores.{same, filled}
 use native.Mathlib.Omega.{arith}
-use Prim.Native.Nat.{_-_}
+use Prim.Native.Nat.{_+_, _-_}
 use borrow.Author.Needs.{needs}
 use Rattle.rows_scaling.proofs.level_lanes.Statement.{statement}
 use Rattle.rows_scaling.proofs.level_lanes.Tie as tie
 
 abbrev Inv-loop : tie.InvT-loop
-Inv-loop newer w factor signed out₀ k₀ out k = Grown 0 factor newer newer out₀ out w k
+Inv-loop work new w factor signed out₀ k₀ out k = Grown 0 factor work new new out₀ out w k
 
 abbrev μ-loop : tie.MeasureT-loop
-μ-loop newer w factor signed out₀ k₀ out k = w - k
+μ-loop work new w factor signed out₀ k₀ out k = w - k
 
 loop-holds : tie.Need-loop-holds Inv-loop μ-loop
 loop-holds c = grow-first 0 (c .before .before .args .factor) (c .before .before .pre .0)
+
+add-mult-fix : tie.Need-add-mult-fix Inv-loop μ-loop
+add-mult-fix c = search needs
 
 mul-mult-fix : tie.Need-mul-mult-fix Inv-loop μ-loop
 mul-mult-fix c = search needs
@@ -27,9 +30,7 @@ mult-fix-requires : tie.Need-mult-fix-requires Inv-loop μ-loop
 mult-fix-requires c κs = search needs
 
 byte-of-requires : tie.Need-byte-of-requires Inv-loop μ-loop
-byte-of-requires c κs =
-    let b = c .before .before .before in
-    MULT-halved (b .before .before .before .pre .1) (c .before .shared-slice-known2 .given (b .loop .k) .fits) (c .mult-fix .ensures)
+byte-of-requires c κs = MULT-halved (c .before .before .before .before .before .before .pre .1) (c .before .shared-slice-known2 .given (c .before .before .before .before .before .before .args .new + c .before .before .before .loop .k) .fits) (c .mult-fix .ensures)
 
 slice-write-out : tie.Need-slice-write-out Inv-loop μ-loop
 slice-write-out c = omega (arith, same (c .before .before .before .before .loop .inv .bytes))
@@ -41,10 +42,7 @@ loop-less : tie.Need-loop-less Inv-loop μ-loop
 loop-less c = search needs
 
 loop-again : tie.Need-loop-again Inv-loop μ-loop
-loop-again c =
-    let b = c .before .before .before in
-    level-turn (b .before .loop .inv) (c .before .mult-fix .result) (c .byte-of .result) (b .loop-test .taken) (c .before .mult-fix .ensures)
-    (c .byte-of .ensures)
+loop-again c = level-turn (c .before .before .before .before .loop .inv) (c .before .mult-fix .result) (c .byte-of .result) (c .before .before .before .loop-test .taken) (c .before .mult-fix .ensures) (c .byte-of .ensures)
 
 same-length : tie.Need-same-length Inv-loop μ-loop
 same-length c = same (c .before .loop .inv .bytes)
@@ -59,6 +57,7 @@ level-lanes-spec =
     Inv-loop
     μ-loop
     loop-holds
+    add-mult-fix
     mul-mult-fix
     shared-slice-read-mult-fix
     mult-fix-requires

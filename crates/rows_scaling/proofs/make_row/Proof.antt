@@ -27,7 +27,7 @@ same-length-4 : tie.Need-same-length-4
 same-length-4 c = search needs
 
 returns-2 : tie.Need-returns-2
-returns-2 c = let a = (c .before .before .before .before .before .before .before .before .before .args) in ((c .before .before .grow-row) .ensures, halves-stay (scaleIn (a .s)) (a .used) (a .row) (a .work .now) ((c .before .before .before .before .before .if1) .left))
+returns-2 c = let a = c .before .before .before .before .before .before .before .before .before .args in (c .before .before .grow-row .ensures, halves-stay (scaleIn (a .s)) (a .used) (a .row) (a .work .now) (c .before .before .before .before .before .if1 .left))
 
 pub make-row-spec : {M : Type 1} → statement M
 make-row-spec =

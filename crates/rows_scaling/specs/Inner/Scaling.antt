@@ -27,10 +27,10 @@ pub record RoomAsks (work out : List ℕ) (w : ℕ) : Type 0 where
   pub halves : w + w ≤ length work
   pub exact : length out ≡ w
 
--- the newer and the older half, w bytes of output
-pub record GrowAsks (newer older out : List ℕ) (w : ℕ) : Type 0 where
-  pub newer-whole : length newer ≡ w
-  pub older-whole : length older ≡ w
+-- the newer and the older half from places `new` and `old` on, w bytes of output
+pub record GrowAsks (work : List ℕ) (new old : ℕ) (out : List ℕ) (w : ℕ) : Type 0 where
+  pub newer : new + w ≤ length work
+  pub older : old + w ≤ length work
   pub exact : length out ≡ w
 
 -- where the signed tests are used, the number fits them
@@ -50,5 +50,5 @@ unfoldable pub lowByte : List ℕ → ℕ → ℕ
 lowByte work x = getD work x 0 % 256
 
 -- MULT of the two mixed and the factor, FRAC(1, span)
-unfoldable pub growByte : ℕ → ℕ → List ℕ → List ℕ → ℕ → ℕ
-growByte b factor newer older x = clamp (MULT (mixed b (getD newer x 0) (getD older x 0)) factor)
+unfoldable pub growByte : ℕ → ℕ → List ℕ → ℕ → ℕ → ℕ → ℕ
+growByte b factor work new old x = clamp (MULT (mixed b (getD work (new + x) 0) (getD work (old + x) 0)) factor)
