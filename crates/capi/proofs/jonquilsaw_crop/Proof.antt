@@ -1,6 +1,5 @@
 -- The boundary's test, then the library's answer with its flag stored. Assumes nothing.
-use Rattle.capi.specs.Pictures.{numberOfCrop, outAfterCrop, flagAfterCrop}
-use Rattle.capi.proofs.Answers.{misuse-told, misuse-kept, passed, buffer-told, flag-number, flag-told}
+use Rattle.capi.proofs.Pictures.{crop-misused, crop-told}
 use borrow.Author.Needs.{needs}
 use Rattle.capi.proofs.jonquilsaw_crop.Statement.{statement}
 use Rattle.capi.proofs.jonquilsaw_crop.Tie as tie
@@ -9,12 +8,9 @@ misused-requires : tie.Need-misused-requires
 misused-requires c κs = search needs
 
 returns : tie.Need-returns
-unfolding numberOfCrop outAfterCrop flagAfterCrop
 returns c =
     let g = c .before .before .before .before .before .args in
-    let e = c .before .misused .ensures in
-    let f = c .if1 .taken in
-    (misuse-told _ e f, (misuse-kept _ e f _ (g .out .now), misuse-kept _ e f _ (g .flag .now)))
+    crop-misused (g .source-width) (g .source-height) (g .layout) (g .crop-x) (g .crop-y) (g .crop-width) (g .crop-height) (g .pixels .now) (g .out .now) (g .flag .now) (c .before .misused .ensures) (c .if1 .taken)
 
 layout-of-requires : tie.Need-layout-of-requires
 layout-of-requires c κs = search needs
@@ -32,16 +28,13 @@ same-length-2 : tie.Need-same-length-2
 same-length-2 c = search needs
 
 returns-2 : tie.Need-returns-2
-unfolding numberOfCrop outAfterCrop flagAfterCrop
 returns-2 c =
-    let g = c .before .before .before .before .before .before .before .before .before .before .before .before .before .before .args in
-    let e = c .before .before .before .before .before .before .before .before .before .before .misused .ensures in
-    let f = c .before .before .before .before .before .before .before .before .before .if1 .left in
-    let l = c .before .before .before .before .before .before .before .before .layout-of .ensures in
-    let answer = c .before .before .before .before .before .before .crop .result in
-    let a = c .before .before .before .before .before .before .crop .ensures in
-    let s = c .before .before .store-flag .ensures in
-    (flag-number _ e f answer (a .0) _ (s .0), (buffer-told _ _ _ _ (g .out .now) (passed _ e f) (a .1 .1), flag-told _ e f answer (a .0) _ _ (g .flag .now) (rw l at (a .1 .0)) (s .1)))
+    let b = c .before .before .before .before .before .before in
+    let g = b .before .before .before .before .before .before .before .before .args in
+    let l = b .before .before .layout-of in
+    let a = b .crop .ensures in
+    crop-told (g .source-width) (g .source-height) (g .layout) (g .crop-x) (g .crop-y) (g .crop-width) (g .crop-height) (g .pixels .now) (g .out .now) (g .flag .now)
+    (b .before .before .before .before .misused .ensures) (b .before .before .before .if1 .left) (l .result) (l .ensures) (b .crop .result) (a .0) (a .1 .0) _ (a .1 .1) _ _ (c .before .before .store-flag .ensures)
 
 pub jonquilsaw-crop-spec : {M : Type 1} → statement M
 jonquilsaw-crop-spec =

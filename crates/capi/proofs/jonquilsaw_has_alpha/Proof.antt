@@ -1,6 +1,5 @@
 -- The boundary's test, then the library's answer with its flag stored. Assumes nothing.
-use Rattle.capi.specs.Pictures.{numberOfHasAlpha, flagAfterHasAlpha}
-use Rattle.capi.proofs.Answers.{misuse-told, misuse-kept, flag-number, flag-told}
+use Rattle.capi.proofs.Pictures.{has-alpha-misused, has-alpha-told}
 use borrow.Author.Needs.{needs}
 use Rattle.capi.proofs.jonquilsaw_has_alpha.Statement.{statement}
 use Rattle.capi.proofs.jonquilsaw_has_alpha.Tie as tie
@@ -9,12 +8,9 @@ misused-requires : tie.Need-misused-requires
 misused-requires c κs = search needs
 
 returns : tie.Need-returns
-unfolding numberOfHasAlpha flagAfterHasAlpha
 returns c =
     let g = c .before .before .before .before .args in
-    let e = c .before .misused .ensures in
-    let f = c .if1 .taken in
-    (misuse-told _ e f, misuse-kept _ e f _ (g .flag .now))
+    has-alpha-misused (g .width) (g .height) (g .layout) (g .pixels .now) (g .flag .now) (c .before .misused .ensures) (c .if1 .taken)
 
 layout-of-requires : tie.Need-layout-of-requires
 layout-of-requires c κs = search needs
@@ -29,16 +25,13 @@ same-length : tie.Need-same-length
 same-length c = search needs
 
 returns-2 : tie.Need-returns-2
-unfolding numberOfHasAlpha flagAfterHasAlpha
 returns-2 c =
-    let g = c .before .before .before .before .before .before .before .before .before .before .args in
-    let e = c .before .before .before .before .before .before .before .misused .ensures in
-    let f = c .before .before .before .before .before .before .if1 .left in
-    let l = c .before .before .before .before .before .layout-of .ensures in
-    let answer = c .before .before .before .before .picture-has-alpha .result in
-    let a = c .before .before .before .before .picture-has-alpha .ensures in
-    let s = c .before .before .store-flag .ensures in
-    (flag-number _ e f answer (a .0) _ (s .0), flag-told _ e f answer (a .0) _ _ (g .flag .now) (rw l at (a .1)) (s .1))
+    let b = c .before .before .before .before in
+    let g = b .before .before .before .before .before .before .args in
+    let l = b .before .layout-of in
+    let a = b .picture-has-alpha .ensures in
+    has-alpha-told (g .width) (g .height) (g .layout) (g .pixels .now) (g .flag .now)
+    (b .before .before .before .misused .ensures) (b .before .before .if1 .left) (l .result) (l .ensures) (b .picture-has-alpha .result) (a .0) (a .1) _ _ (c .before .before .store-flag .ensures)
 
 pub jonquilsaw-has-alpha-spec : {M : Type 1} → statement M
 jonquilsaw-has-alpha-spec =
