@@ -1,8 +1,8 @@
 -- Each word is read at its place. Assumes nothing.
-use Rattle.capi.specs.Words.{wordsJob}
+use Rattle.capi_words.specs.Record.{wordsJob}
 use borrow.Author.Needs.{needs}
-use Rattle.capi.proofs.read_job.Statement.{statement}
-use Rattle.capi.proofs.read_job.Tie as tie
+use Rattle.capi_words.proofs.job_of.Statement.{statement}
+use Rattle.capi_words.proofs.job_of.Tie as tie
 
 shared-slice-read-t8 : tie.Need-shared-slice-read-t8
 shared-slice-read-t8 c = search needs
@@ -47,8 +47,8 @@ returns : tie.Need-returns
 unfolding wordsJob
 returns c = rw ((c .before .before .before .layout-of) .ensures)
 
-pub read-job-spec : {M : Type 1} → statement M
-read-job-spec =
+pub job-of-spec : {M : Type 1} → statement M
+job-of-spec =
     tie.close
     (tie.spec
     shared-slice-read-t8

@@ -1,8 +1,8 @@
 -- The words of the record, stored as one answer. Assumes nothing.
-use Rattle.capi.proofs.Jobs.{job-stored}
+use Rattle.capi_words.proofs.Records.{job-stored}
 use borrow.Author.Needs.{needs}
-use Rattle.capi.proofs.store_job.Statement.{statement}
-use Rattle.capi.proofs.store_job.Tie as tie
+use Rattle.capi_words.proofs.store_job.Statement.{statement}
+use Rattle.capi_words.proofs.store_job.Tie as tie
 
 layout-word-requires : tie.Need-layout-word-requires
 layout-word-requires c κs = search needs
@@ -20,7 +20,12 @@ same-length : tie.Need-same-length
 same-length c = search needs
 
 returns : tie.Need-returns
-returns c = job-stored ((c .before .before .before .before .before .before .before .before .before .args) .job) ((c .before .before .before .before .before .before .layout-word) .result) ((c .before .before .before .before .before .flag-word) .result) _ ((c .before .before .before .before .before .before .before .before .before .args) .words .now) ((c .before .before .before .before .before .before .layout-word) .ensures) ((c .before .before .before .before .before .flag-word) .ensures) ((c .before .before .store) .ensures)
+returns c =
+    let b = c .before .before .before .before .before in
+    let g = b .before .before .before .before .args in
+    let l = b .before .layout-word in
+    let f = b .flag-word in
+    job-stored (g .job) (l .result) (f .result) _ (g .words .now) (l .ensures) (f .ensures) (c .before .before .store .ensures)
 
 pub store-job-spec : {M : Type 1} → statement M
 store-job-spec =

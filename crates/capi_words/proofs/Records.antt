@@ -1,9 +1,9 @@
 -- A record written into words and read back is that record, and the words of a legal record are the ones that it is written as: neither way loses anything.
 -- Each word stands at its own place, and the layouts and flags are told apart by their words. Assumes nothing.
 use Prim.Native.Nat.{ℕ, zero, suc, _≤_, _<_}
-use mathlib.Core.Path.{_≡_, refl, sym}
-use mathlib.Core.Bool.{Bool, true, false, _&&_, true≢false}
-use mathlib.Core.List.{List, _∷_, _++_}
+use mathlib.Core.Path.{_≡_, refl, sym, ap, _∙_}
+use mathlib.Core.Bool.{Bool, true, false, cond, _&&_, true≢false}
+use mathlib.Core.List.{List, [], _∷_, _++_}
 use native.Mathlib.Omega.{arith}
 use lib.Dec.{leb, lit<}
 use lib.ListN.{length, getD, drop}
@@ -12,8 +12,11 @@ use borrow.Author.Tests.{leb-true, ltb-true, le-leb, lt-leb, lt-ltb, le-ltb}
 use Rattle.pixels.specs.declared.PixelLayout.{PixelLayout}
 use Rattle.pixels.specs.declared.PixelLayout.the-variants.{Rgba8, Argb8, Bgra8}
 use Rattle.job.specs.declared.Job.{Job}
-use Rattle.capi.specs.Boundary.{isLayout, wordLayout, layoutWord, isFlag, wordFlag, flagWord}
-use Rattle.capi.specs.Words.{recordLength, recordWords, wordsJob, wordsLegal, storedJob}
+use Rattle.capi_words.specs.declared.Told.{Told}
+use Rattle.capi_words.specs.declared.Told.the-variants as told
+use Rattle.capi_words.specs.Words.{isLayout, wordLayout, layoutWord, isFlag, wordFlag, flagWord, stored}
+use Rattle.capi_words.specs.Record.{recordLength, recordWords, wordsJob, wordsLegal, toldBy, storedJob}
+use Rattle.capi_words.proofs.Words.{stored-enough}
 
 -- ---- a layout and a flag
 pub layout-back : (l : PixelLayout) → wordLayout (layoutWord l) ≡ l
@@ -112,4 +115,47 @@ pub written-read : (words : List ℕ) → wordsLegal words ≡ true → storedJo
 unfolding recordWords wordsJob
 written-read words e =
     let l = legal-of words e in
-    rw (layout-word _ (l .layout), flag-word _ (l .flag)) (sym (twelve words (l .enough)))
+    stored-enough (recordWords (wordsJob words)) words (l .enough) ∙ rw (layout-word _ (l .layout), flag-word _ (l .flag)) (sym (twelve words (l .enough)))
+
+-- ---- what the functions answer
+-- an answer of the record's words, in their order
+pub job-stored : (j : Job) (l f : ℕ) (next words : List ℕ) → l ≡ layoutWord (j .plan .layout) → f ≡ flagWord (j .flag)
+    → next
+    ≡ stored
+    (j .plan .source .width ∷ j .plan .source .height ∷ l ∷ j .plan .crop .x ∷ j .plan .crop .y ∷ j .plan .crop .width ∷ j .plan .crop .height ∷ j .plan .target .width ∷ j .plan .target .height ∷ j .accepted ∷ j .taken ∷ f ∷ [])
+    words
+    → next ≡ storedJob j words
+unfolding recordWords
+job-stored j l f next words a b h = rw (a, b) at h
+
+pub told-nothing : (words : List ℕ) {t : Bool} → t ≡ wordsLegal words → t ≡ false → told.Nothing ≡ toldBy words
+told-nothing words e f = simp (sym e ∙ f)
+
+pub told-job : (words : List ℕ) (j : Job) {t : Bool} → t ≡ wordsLegal words → t ≡ true → j ≡ wordsJob words → told.Job j ≡ toldBy words
+told-job words j e f h = rw h (simp (sym e ∙ f))
+
+pub enough-words : (words : List ℕ) {t : Bool} → t ≡ wordsLegal words → t ≡ true → recordLength ≤ length words
+enough-words words e f = legal-of words (sym e ∙ f) .enough
+
+-- ---- what is known of words by what they tell
+abbrev isJob : Told → Bool
+isJob (told.Job j) = true
+isJob told.Nothing = false
+
+abbrev jobOr : Job → Told → Job
+jobOr other (told.Job j) = j
+jobOr other told.Nothing = other
+
+job-told : (b : Bool) (i j : Job) → cond b (told.Job i) told.Nothing ≡ told.Job j → (b ≡ true) × (i ≡ j)
+job-told true i j e = (refl, ap (jobOr i) e)
+job-told false i j e = absurd (true≢false (sym (ap isJob e)))
+
+none-told : (b : Bool) (i : Job) → cond b (told.Job i) told.Nothing ≡ told.Nothing → b ≡ false
+none-told true i e = absurd (true≢false (ap isJob e))
+none-told false i e = refl
+
+pub job-legal : (words : List ℕ) (j : Job) → toldBy words ≡ told.Job j → (wordsLegal words ≡ true) × (wordsJob words ≡ j)
+job-legal words j e = job-told (wordsLegal words) (wordsJob words) j e
+
+pub none-legal : (words : List ℕ) → toldBy words ≡ told.Nothing → wordsLegal words ≡ false
+none-legal words e = none-told (wordsLegal words) (wordsJob words) e

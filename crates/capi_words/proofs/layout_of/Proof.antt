@@ -1,8 +1,8 @@
 -- A word that is neither 1 nor 2 stands for the first layout. Assumes nothing.
-use Rattle.capi.proofs.Answers.{first-layout}
+use Rattle.capi_words.proofs.Words.{first-layout}
 use borrow.Author.Needs.{needs}
-use Rattle.capi.proofs.layout_of.Statement.{statement}
-use Rattle.capi.proofs.layout_of.Tie as tie
+use Rattle.capi_words.proofs.layout_of.Statement.{statement}
+use Rattle.capi_words.proofs.layout_of.Tie as tie
 
 returns : tie.Need-returns
 returns c = search needs

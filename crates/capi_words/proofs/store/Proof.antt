@@ -1,15 +1,15 @@
--- The invariant: the words with the answer's first i pasted in from the start. Assumes nothing.
+-- Too few words are left as they were. The invariant: the words with the answer's first i pasted in from the start. Assumes nothing.
 use Prim.Native.Nat.{_≤_, _<_, _-_}
-use mathlib.Core.Path.{_≡_, refl}
+use mathlib.Core.Path.{_≡_, refl, sym, _∙_}
 use native.Mathlib.Omega.{arith}
 use native.Mathlib.Numerals.{add-one}
 use mathlib.Core.List.{_++_}
 use lib.ListN.{length, take, drop, length-set}
 use lib.Seq.{take-length}
-use Rattle.capi.proofs.Answers.{store-next}
+use Rattle.capi_words.proofs.Words.{stored-enough, stored-short, store-next}
 use borrow.Author.Needs.{needs}
-use Rattle.capi.proofs.store.Statement.{statement}
-use Rattle.capi.proofs.store.Tie as tie
+use Rattle.capi_words.proofs.store.Statement.{statement}
+use Rattle.capi_words.proofs.store.Tie as tie
 
 abbrev Inv-loop : tie.InvT-loop
 Inv-loop answer words₀ i₀ words i = (i ≤ length answer) × (length words ≡ length words₀) × (words ≡ take i answer ++ drop i words₀)
@@ -17,8 +17,11 @@ Inv-loop answer words₀ i₀ words i = (i ≤ length answer) × (length words �
 abbrev μ-loop : tie.MeasureT-loop
 μ-loop answer words₀ i₀ words i = length answer - i
 
+returns : tie.Need-returns Inv-loop μ-loop
+returns c = stored-short (c .before .args .answer .now) (c .before .args .words .now) (c .if1 .taken)
+
 loop-holds : tie.Need-loop-holds Inv-loop μ-loop
-loop-holds c = let g = c .args in (omega arith, refl, refl)
+loop-holds c = (omega arith, refl, refl)
 
 mul-words : tie.Need-mul-words Inv-loop μ-loop
 mul-words c = search needs
@@ -39,7 +42,8 @@ loop-less : tie.Need-loop-less Inv-loop μ-loop
 loop-less c = search needs
 
 loop-again : tie.Need-loop-again Inv-loop μ-loop
-loop-again c = let g = c .before .before .before .args in
+loop-again c =
+    let g = c .before .before .before .before .args in
     let l = c .before .before .loop in
     let h : l .i < length (g .words .now) = omega arith in
     (omega arith, simp length-set (l .inv .1), rw (l .inv .2, add-one) (store-next (g .words .now) (g .answer .now) (l .i) h (omega arith)))
@@ -47,10 +51,11 @@ loop-again c = let g = c .before .before .before .args in
 same-length : tie.Need-same-length Inv-loop μ-loop
 same-length c = c .before .loop .inv .1
 
-returns : tie.Need-returns Inv-loop μ-loop
-returns c = let g = c .before .before .args in
+returns-2 : tie.Need-returns-2 Inv-loop μ-loop
+returns-2 c =
+    let g = c .before .before .before .args in
     let e : c .before .loop .i ≡ length (g .answer .now) = omega arith in
-    rw (e, take-length) at (c .before .loop .inv .2)
+    (rw (e, take-length) at (c .before .loop .inv .2)) ∙ sym (stored-enough (g .answer .now) (g .words .now) (c .before .before .if1 .left))
 
 pub store-spec : {M : Type 1} → statement M
 store-spec =
@@ -58,6 +63,7 @@ store-spec =
     (tie.spec
     Inv-loop
     μ-loop
+    returns
     loop-holds
     mul-words
     shared-slice-read-words
@@ -67,4 +73,4 @@ store-spec =
     loop-less
     loop-again
     same-length
-    returns)
+    returns-2)

@@ -1,17 +1,17 @@
--- The record as words (document 01, "The job": source size, layout, crop, target, rows accepted, rows taken, the flag so far). Words that make no record are
--- refused with 6, as a record that breaks the rules is; words after the last are the caller's. Assumes nothing.
+-- The record as words (document 01, "The job": source size, layout, crop, target, rows accepted, rows taken, the flag so far). Words after the last are the
+-- caller's. Assumes nothing.
 use Prim.Native.Nat.{ℕ}
 use mathlib.Core.Bool.{Bool, cond, _&&_}
 use mathlib.Core.List.{List, [], _∷_}
 use lib.Dec.{leb}
 use lib.ListN.{length, getD}
-use Rattle.pixels.specs.declared.Refusal.the-variants.{InvalidRecord}
-use Rattle.pixels.specs.Refusals.{number}
 use Rattle.pixels.specs.Sizes.{sizeOf, rectOf}
 use Rattle.job.specs.declared.Plan.{Plan}
 use Rattle.job.specs.declared.Job.{Job}
 use Rattle.job.specs.Record.{planOf}
-use Rattle.capi.specs.Boundary.{isLayout, wordLayout, layoutWord, isFlag, wordFlag, flagWord, stored}
+use Rattle.capi_words.specs.declared.Told.{Told}
+use Rattle.capi_words.specs.declared.Told.the-variants as told
+use Rattle.capi_words.specs.Words.{isLayout, wordLayout, layoutWord, isFlag, wordFlag, flagWord, stored}
 
 -- how many words a record takes
 abbrev pub recordLength : ℕ
@@ -51,9 +51,9 @@ wordsJob words = record {
 unfoldable pub wordsLegal : List ℕ → Bool
 wordsLegal words = leb recordLength (length words) && isLayout (getD words 2 0) && isFlag (getD words 11 0)
 
--- 6 where the words make no record, and the library's number n where they do
-abbrev pub recordFirst : List ℕ → ℕ → ℕ
-recordFirst words n = cond (wordsLegal words) n (number InvalidRecord)
+-- what words tell: a record, or nothing where they make none
+abbrev pub toldBy : List ℕ → Told
+toldBy words = cond (wordsLegal words) (told.Job (wordsJob words)) told.Nothing
 
 -- lent words after a record was stored
 abbrev pub storedJob : Job → List ℕ → List ℕ
