@@ -1,4 +1,5 @@
 -- The boundary's test, then the library's answer with its flag stored. Assumes nothing.
+use Rattle.pixels_alpha.specs.Alpha.{alphaFlag, alphaPixels}
 use Rattle.capi.proofs.Pictures.{plane-misused, plane-told}
 use borrow.Author.Needs.{needs}
 use Rattle.capi.proofs.jonquilsaw_apply_alpha_plane.Statement.{statement}
@@ -28,6 +29,7 @@ same-length-2 : tie.Need-same-length-2
 same-length-2 c = search needs
 
 returns-2 : tie.Need-returns-2
+unfolding alphaFlag alphaPixels
 returns-2 c =
     let b = c .before .before .before .before .before .before in
     let g = b .before .before .before .before .before .before .before .before .args in

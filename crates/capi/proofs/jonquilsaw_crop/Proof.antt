@@ -1,4 +1,5 @@
 -- The boundary's test, then the library's answer with its flag stored. Assumes nothing.
+use Rattle.pixels_crop.specs.Crop.{cropFlag, cropOut}
 use Rattle.capi.proofs.Pictures.{crop-misused, crop-told}
 use borrow.Author.Needs.{needs}
 use Rattle.capi.proofs.jonquilsaw_crop.Statement.{statement}
@@ -28,6 +29,7 @@ same-length-2 : tie.Need-same-length-2
 same-length-2 c = search needs
 
 returns-2 : tie.Need-returns-2
+unfolding cropFlag cropOut
 returns-2 c =
     let b = c .before .before .before .before .before .before in
     let g = b .before .before .before .before .before .before .before .before .args in

@@ -1,4 +1,5 @@
 -- The boundary's test, then the library's answer with its flag stored. Assumes nothing.
+use Rattle.pixels_alpha.specs.Alpha.{pictureFlag}
 use Rattle.capi.proofs.Pictures.{has-alpha-misused, has-alpha-told}
 use borrow.Author.Needs.{needs}
 use Rattle.capi.proofs.jonquilsaw_has_alpha.Statement.{statement}
@@ -25,6 +26,7 @@ same-length : tie.Need-same-length
 same-length c = search needs
 
 returns-2 : tie.Need-returns-2
+unfolding pictureFlag
 returns-2 c =
     let b = c .before .before .before .before in
     let g = b .before .before .before .before .before .before .args in

@@ -1,4 +1,5 @@
 -- The boundary's test, then the library's answer with its flag stored. Assumes nothing.
+use Rattle.job_resize.specs.Resize.{resizeFlag, resizeOut, resizeWork}
 use Rattle.capi.proofs.Pictures.{resize-misused, resize-told}
 use borrow.Author.Needs.{needs}
 use Rattle.capi.proofs.jonquilsaw_resize.Statement.{statement}
@@ -31,6 +32,7 @@ same-length-3 : tie.Need-same-length-3
 same-length-3 c = search needs
 
 returns-2 : tie.Need-returns-2
+unfolding resizeFlag resizeOut resizeWork
 returns-2 c =
     let b = c .before .before .before .before .before .before .before .before in
     let g = b .before .before .before .before .before .before .before .before .before .before .args in
