@@ -4,14 +4,14 @@ use mathlib.Core.Path.{_≡_}
 use mathlib.Core.Bool.{Bool, cond}
 use mathlib.Core.List.{List, _++_}
 use lib.Dec.{eqb}
-use lib.ListN.{length, getD, drop}
+use lib.ListN.{length, getD, take, drop}
 use Rattle.arithmetic.specs.Table.{tabulate}
 use Rattle.pixels.specs.Sizes.{pixelLanes, rowBytes, halfValues, workValues, pictureBytes, Fits}
 use Rattle.pixels_alpha.specs.Alpha.{hasAlpha}
 use Rattle.job.specs.declared.Plan.{Plan}
 use Rattle.job.specs.declared.Job.{Job}
 use Rattle.job.specs.Record.{lanesOf, fresh, readyOf}
-use Rattle.job.specs.Calls.{cleared, offerJob, offerWork}
+use Rattle.job.specs.Calls.{cleared, offerJob, offerWork, takeOut}
 use Rattle.job_claim.specs.Rows.{rowsOf}
 use Rattle.job_resize.specs.Resize.{lastFirst, lastSecond}
 
@@ -25,6 +25,13 @@ fedJob j pixels w = cond (eqb (readyOf j) 0) (offerJob j (length (restOf j pixel
 
 unfoldable pub fedWork : Job → List ℕ → List ℕ → List ℕ
 fedWork j pixels work = cond (eqb (readyOf j) 0) (offerWork j (restOf j pixels) work) work
+
+-- the next row taken into its place of the output
+abbrev pub emittedOut : Job → List ℕ → List ℕ → List ℕ
+emittedOut j out work =
+    let size : ℕ = rowBytes (lanesOf (j .plan)) (j .plan .target .width) in
+    let from : List ℕ = drop (size * j .taken) out in
+    take (size * j .taken) out ++ (takeOut j (take size from) work ++ drop size from)
 
 -- a fresh job and buffers of the right length, the work rows as start leaves them
 pub record Asked (j : Job) (pixels out work : List ℕ) : Type 0 where

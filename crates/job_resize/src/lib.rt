@@ -14,15 +14,15 @@ use pixels::Refusal;
 use pixels::check_sizes;
 use pixels::wrong_length;
 ghost use mathlib.Core.Path.{_≡_};
-ghost use mathlib.Core.List.{_++_};
+
 ghost use Prim.Native.Nat.{_+_, _*_, _≤_};
 ghost use lib.ListN.{length, take, drop};
 ghost use Rattle.pixels.specs.Refusals.{checkedNumber, flaggedNumber, flaggedFlag};
 ghost use Rattle.pixels.specs.Sizes.{rowBytes};
 ghost use Rattle.job.specs.Answers.{offeredJob, takenJob};
-ghost use Rattle.job.specs.Calls.{takeJob, takeOut, takeWork};
+ghost use Rattle.job.specs.Calls.{takeJob, takeWork};
 ghost use Rattle.job_resize.specs.Resize.{resizeNumber, resizeFlag, resizeOut, resizeWork};
-ghost use Rattle.job_resize.specs.Inner.{Asked, Driven, fedJob, fedWork};
+ghost use Rattle.job_resize.specs.Inner.{emittedOut, Asked, Driven, fedJob, fedWork};
 ghost use Rattle.job.specs.Record.{lanesOf};
 
 // The next record of an answer, whichever it is.
@@ -61,7 +61,7 @@ fn feed(job: Job, pixels: &[u8], work: &mut [u32]) -> Job
 fn emit(job: Job, out: &mut [u8], work: &mut [u32]) -> Job
     requires { ⌜ rowBytes (lanesOf (job .plan)) (job .plan .target .width) * job .taken + rowBytes (lanesOf (job .plan)) (job .plan .target .width) ≤ length (now out) ⌝ }
     ensures job { λ r. ⌜ r ≡ takeJob job (rowBytes (lanesOf (job .plan)) (job .plan .target .width)) (now (work .entry)) ⌝ }
-    ensures out { λ _. ⌜ now (out .exit) ≡ take (rowBytes (lanesOf (job .plan)) (job .plan .target .width) * job .taken) (now (out .entry)) ++ (takeOut job (take (rowBytes (lanesOf (job .plan)) (job .plan .target .width)) (drop (rowBytes (lanesOf (job .plan)) (job .plan .target .width) * job .taken) (now (out .entry)))) (now (work .entry)) ++ drop (rowBytes (lanesOf (job .plan)) (job .plan .target .width)) (drop (rowBytes (lanesOf (job .plan)) (job .plan .target .width) * job .taken) (now (out .entry)))) ⌝ }
+    ensures out { λ _. ⌜ now (out .exit) ≡ emittedOut job (now (out .entry)) (now (work .entry)) ⌝ }
     ensures work { λ _. ⌜ now (work .exit) ≡ takeWork job (rowBytes (lanesOf (job .plan)) (job .plan .target .width)) (now (work .entry)) ⌝ }
 {
     let size = PIXEL_LANES * job.plan.target.width as usize;
