@@ -259,10 +259,11 @@ fn check_scale(
         return Checked::Refused(Refusal::InvalidDimensions);
     }
     let w = PIXEL_LANES * target.width as usize;
+    let both = 2 * w;
     if out != w {
         return Checked::Refused(Refusal::OutputLength);
     }
-    if work < 2 * w {
+    if work < both {
         return Checked::Refused(Refusal::WorkLength);
     }
     if !due(crop.height, target.height, used, row) {

@@ -43,14 +43,14 @@ cast-w c = search needs
 mul-w : tie.Need-mul-w
 mul-w c = search needs
 
+mul-both : tie.Need-mul-both
+mul-both c = search needs
+
 returns-3 : tie.Need-returns-3
 unfolding scaleNumber
 returns-3 c =
     let a = c .before .before .before .before .before .before .args in
     sym (first-at (scaleCauses (a .crop) (a .target) (a .used) (a .row) (a .out) (a .work)) 2 (crop-fits (c .before .before .before .before), (target-fits (c .before .before), tt)) (differ _ _ (c .if3 .taken)))
-
-mul-if4 : tie.Need-mul-if4
-mul-if4 c = search needs
 
 returns-4 : tie.Need-returns-4
 unfolding scaleNumber
@@ -90,8 +90,8 @@ check-scale-spec =
     returns-2
     cast-w
     mul-w
+    mul-both
     returns-3
-    mul-if4
     returns-4
     due-requires
     returns-5
