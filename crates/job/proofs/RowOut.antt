@@ -16,9 +16,10 @@ use Rattle.pixels.proofs.Fitting.{side-good, size-good}
 use Rattle.rows_schedule.specs.Schedule.{needed}
 use Rattle.rows_schedule.proofs.Needed.{needed-used}
 use Rattle.rows.specs.WorkRows.{byteOut}
-use Rattle.rows_scaling.specs.Scaling.{due, scaleNumber, scaledOut, scaledWork}
+use Rattle.rows_due.specs.Due.{due}
+use Rattle.rows_scaling.specs.Scaling.{scaleNumber, scaledOut, scaledWork}
 use Rattle.rows_restoring.specs.Restoring.{restoreNumber, restoredRow, restoredOut, rowFlag}
-use Rattle.rows_scaling.proofs.DueRow.{needed-due}
+use Rattle.rows_due.proofs.DueRow.{needed-due}
 use Rattle.rows_scaling.proofs.ScaleRow.{scale-passes}
 use Rattle.rows_restoring.proofs.RestoreRow.{restore-passes}
 use Rattle.job.specs.declared.Plan.{Plan}
