@@ -282,23 +282,27 @@ fn second(n: usize) -> usize
 }
 
 // One column on: by `step` of the parts, into the next pixel where the left one has fewer.
-fn advance(row: &[u8], span: u32, step: u32, mut s: Stand, p: Places) -> Stand
+fn advance(row: &[u8], span: u32, step: u32, s: Stand, p: Places) -> Stand
     requires { ⌜ AdvanceAsks (now row) (length (now row) / pixelLanes) span step (s .left) (s .right) (s .x) (s .acc) p ⌝ }
     ensures { λ r. ⌜ Advances (now (row .entry)) (length (now (row .entry)) / pixelLanes) span step p (s .x) (s .acc) (r .left) (r .right) (r .x) (r .acc) ⌝ }
 {
-    let acc = s.acc;
-    if acc < step {
-        let left = s.right;
-        let x = s.x + 1;
+    let right = s.right;
+    if s.acc < step {
+        let next = s.x + 2;
         return Stand {
-            left,
-            right: read_lanes(row, x + 1, p),
-            x,
-            acc: acc + span - step,
+            left: right,
+            right: read_lanes(row, next, p),
+            x: s.x + 1,
+            acc: s.acc + span - step,
         };
     }
-    s.acc = acc - step;
-    s
+    let left = s.left;
+    Stand {
+        left,
+        right,
+        x: s.x,
+        acc: s.acc - step,
+    }
 }
 
 // Every column where the width grows. The Rust: Rescaler::import_row_expand; libwebp: WebPRescalerImportRowExpand_C.
