@@ -2,5 +2,5 @@ pub mod Clamp
 pub mod Factors
 pub mod ShrinkLanes
 pub mod BlendLanes
-pub mod DueRow
+pub mod RestRange
 pub mod ScaleRow

@@ -9,6 +9,7 @@ use pixels::Dimensions;
 use pixels::PIXEL_LANES;
 use pixels::Refusal;
 use pixels::bad_size;
+use rows_due::due;
 use std::num::wrapping_sub_u32;
 ghost use mathlib.Core.Path.{_≡_};
 ghost use mathlib.Core.List.{_++_};
@@ -19,8 +20,7 @@ ghost use Rattle.arithmetic.specs.Weight as weight;
 ghost use Rattle.pixels.specs.Refusals.{checkedNumber};
 ghost use Rattle.rows.specs.Output.{clamp, mixed};
 ghost use Rattle.rows.specs.WorkRows.{halfOf, byteOut, rowLeft};
-ghost use Rattle.rows_scaling.specs.Scaling as scaling;
-ghost use Rattle.rows_scaling.specs.Scaling.{within, scaleNumber, scaledOut, scaledWork};
+ghost use Rattle.rows_scaling.specs.Scaling.{scaleNumber, scaledOut, scaledWork};
 ghost use Rattle.rows_scaling.specs.Inner.Scaling.{scaleIn, RowAsks, RoomAsks, GrowAsks, Halved, shrinkLeft, shrinkByte, lowByte, growByte};
 
 // What rows are scaled by: document 01's span, crop height h and target height g, and w, the values of a half.
@@ -128,38 +128,6 @@ fn blend_lanes(
         out[k] = byte_of(mult_fix(j, factor), signed);
         k += 1;
     }
-}
-
-// from ≤ x < from + room
-fn in_range(x: u64, from: u64, room: u64) -> bool
-    ensures { λ r. ⌜ r ≡ within x from room ⌝ }
-{
-    if x < from {
-        return false;
-    }
-    x - from < room
-}
-
-// Whether u crop rows are those of the output row: d lies in its range. The Rust's has_pending_output, of a row and not of a running y_accum.
-fn due(h: u32, g: u32, used: u32, row: u32) -> bool
-    requires { ⌜ 1 ≤ h ⌝ }
-    ensures { λ r. ⌜ r ≡ scaling.due h g used row ⌝ }
-{
-    if g <= h {
-        return in_range(
-            used as u64 * g as u64,
-            (row as u64 + 1) * h as u64,
-            g as u64,
-        );
-    }
-    if used == 0 {
-        return false;
-    }
-    in_range(
-        (used - 1) as u64 * (g - 1) as u64,
-        row as u64 * (h - 1) as u64,
-        (g - 1) as u64,
-    )
 }
 
 // The half of the work rows that crop row c goes to, where the height grows.

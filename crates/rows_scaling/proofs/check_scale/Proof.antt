@@ -5,7 +5,6 @@ use borrow.Author.Tests.{lt-ltb, le-ltb}
 use Rattle.pixels.specs.Sizes.{badSize}
 use Rattle.pixels.proofs.Truths.{differ, same, not-false}
 use Rattle.pixels.proofs.Causes.{first-at}
-use Rattle.pixels.proofs.Fitting.{size-of}
 use Rattle.rows_scaling.specs.Scaling.{scaleCauses, scaleNumber}
 use Rattle.rows_scaling.proofs.ScaleRow.{scale-passes}
 use borrow.Author.Needs.{needs}
@@ -59,7 +58,7 @@ returns-4 c =
     sym (first-at (scaleCauses (a .crop) (a .target) (a .used) (a .row) (a .out) (a .work)) 3 (crop-fits (c .before .before .before .before .before), (target-fits (c .before .before .before), (same _ _ (c .before .if3 .left), tt))) (lt-ltb _ _ (c .if4 .taken)))
 
 due-requires : tie.Need-due-requires
-due-requires c κs = size-of (c .before .before .before .before .before .before .before .args .crop) (crop-fits (c .before .before .before .before .before)) .1 .some
+due-requires c κs = search needs
 
 returns-5 : tie.Need-returns-5
 unfolding scaleNumber

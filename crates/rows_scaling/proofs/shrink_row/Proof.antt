@@ -1,6 +1,7 @@
 -- `shrink_row` meets its contract: d is in its range, so it fits; the loops' step and ratio are document 01's factors. Assumes nothing.
 use Rattle.rows_scaling.proofs.Factors.{step-of, ratio-most, ratio-half, shrink-out, shrink-work, take-out, take-work}
-use Rattle.rows_scaling.proofs.DueRow.{down-low, down-high, row-most}
+use Rattle.rows_due.proofs.DueRow.{row-most}
+use Rattle.rows_scaling.proofs.RestRange.{down-low, down-high}
 use Rattle.rows_scaling.specs.Inner.Scaling.{scaleIn}
 use Rattle.rows.specs.Output.{ratio}
 use Rattle.arithmetic.proofs.Products.{most}

@@ -9,8 +9,8 @@ use Rattle.arithmetic.specs.Word.{wrapSub}
 use Rattle.arithmetic.specs.FixedPoint.{MULT, FLOOR}
 use Rattle.rows.specs.Output.{clamp, mixed}
 use Rattle.rows.specs.WorkRows.{Scale}
+use Rattle.rows_due.specs.Due.{due}
 use Rattle.rows_scaling.specs.declared.RowScale.{RowScale}
-use Rattle.rows_scaling.specs.Scaling.{due}
 
 -- what the code's record says
 abbrev pub scaleIn : RowScale → Scale

@@ -1,7 +1,7 @@
 -- When u crop rows are those of an output row: the test as the code makes it, and what it tells. Assumes nothing.
 use Prim.Native.Nat.{ℕ, suc, _+_, _*_, _-_, _^_, _≤_, _<_}
-use mathlib.Core.Path.{_≡_, refl, sym, ap, _∙_}
-use mathlib.Core.Bool.{Bool, true, false, _&&_, true≢false}
+use mathlib.Core.Path.{_≡_, sym, ap, _∙_}
+use mathlib.Core.Bool.{true, false, true≢false}
 use mathlib.Core.Logic.{⊎-elim}
 use native.Mathlib.Omega.{arith}
 use native.Mathlib.Nat.{mul-le-mul, mul-zero, eq-or-lt-of-le, add-sub-cancel-left}
@@ -12,9 +12,7 @@ use Rattle.arithmetic.specs.Quotient.{ceil}
 use Rattle.arithmetic.proofs.Quotients.{ceil-low, ceil-high, ceil-is}
 use Rattle.rows_schedule.specs.Schedule.{needed}
 use Rattle.pixels.proofs.Truths.{both-true}
-use Rattle.rows.specs.WorkRows.{Scale}
-use Rattle.rows_scaling.specs.Scaling.{within, due}
-use Rattle.rows_scaling.specs.Inner.Scaling.{RowAsks}
+use Rattle.rows_due.specs.Due.{within, due}
 
 -- ---- a range
 pub range-low : (x from room : ℕ) → within x from room ≡ true → from ≤ x
@@ -51,31 +49,6 @@ due-up h g u y l p = simp (lt-leb g h l, lt-ltb 0 u p)
 pub due-some : (h g u y : ℕ) → h < g → due h g u y ≡ true → 1 ≤ u
 due-some h g u y l e =
     ⊎-elim (λ z. absurd (true≢false (sym e ∙ due-none h g u y l (omega arith)))) (λ p. p) (le-or-lt u 0)
-
--- ---- what a row that is due tells of d
-module _ {s : Scale} {u y : ℕ} (a : RowAsks s u y) where
-  module _ (l : s .g ≤ s .h) where
-    down : within (u * s .g) (suc y * s .h) (s .g) ≡ true
-    down = sym (due-down (s .h) (s .g) u y l) ∙ a .ready
-
-    pub down-low : suc y * s .h ≤ u * s .g
-    down-low = range-low (u * s .g) (suc y * s .h) (s .g) down
-
-    pub down-high : u * s .g < suc y * s .h + s .g
-    down-high = range-high (u * s .g) (suc y * s .h) (s .g) down
-
-  module _ (l : s .h < s .g) where
-    pub up-some : 1 ≤ u
-    up-some = due-some (s .h) (s .g) u y l (a .ready)
-
-    up : within ((u - 1) * (s .g - 1)) (y * (s .h - 1)) (s .g - 1) ≡ true
-    up = sym (due-up (s .h) (s .g) u y l up-some) ∙ a .ready
-
-    pub up-low : y * (s .h - 1) ≤ (u - 1) * (s .g - 1)
-    up-low = range-low ((u - 1) * (s .g - 1)) (y * (s .h - 1)) (s .g - 1) up
-
-    pub up-high : (u - 1) * (s .g - 1) < y * (s .h - 1) + (s .g - 1)
-    up-high = range-high ((u - 1) * (s .g - 1)) (y * (s .h - 1)) (s .g - 1) up
 
 -- ---- the crop rows that row y needs are those for which it is due, and no others
 needed-down : (h g y : ℕ) → g ≤ h → needed h g y ≡ ceil (suc y * h) g
