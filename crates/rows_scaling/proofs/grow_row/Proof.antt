@@ -60,9 +60,10 @@ half-of-requires-2 : tie.Need-half-of-requires-2
 half-of-requires-2 c κs = search needs
 
 level-lanes-requires : tie.Need-level-lanes-requires
-level-lanes-requires c κs = let u = c .before .before .before .before .before .before .before .before .before .before .before .before .args .used in
-    (grow-room (u - 1) (u - 1) (c .before .before .before .before .before .before .before .before .before .before .before .before .pre .1 .1) (c .before .before .before .before .half-of .ensures) (c .before .before .before .before .half-of .ensures),
-    λ t. rw (c .before .before .before .before .before .frac2 .ensures) (factor-half (c .before .before .before .before .before .before .before .before .before .before .before .before .args .s .span) (eqb-false _ _ (not-true _ t))))
+level-lanes-requires c κs = let u = c .before .before .before .before .before .before .before .before .before .before .before .before .args .used in (
+  grow-room (u - 1) (u - 1) (c .before .before .before .before .before .before .before .before .before .before .before .before .pre .1 .1) (c .before .before .before .before .half-of .ensures) (c .before .before .before .before .half-of .ensures),
+  λ t. rw (c .before .before .before .before .before .frac2 .ensures) (factor-half (c .before .before .before .before .before .before .before .before .before .before .before .before .args .s .span) (eqb-false _ _ (not-true _ t))),
+)
 
 same-length : tie.Need-same-length
 same-length c = search needs
@@ -73,9 +74,10 @@ returns c = let a = c .before .before .before .before .before .before .before .b
     (c .before .before .before .before .before .before .before .half-of .ensures) (c .before .before .before .before .before .before .half-of2 .ensures) (c .before .before .before .before .if1 .taken) (c .before .before .level-lanes .ensures)
 
 blend-lanes-requires : tie.Need-blend-lanes-requires
-blend-lanes-requires c κs = let u = c .before .before .before .before .before .before .before .before .before .before .before .before .args .used in
-    (grow-room (u - 1) u (c .before .before .before .before .before .before .before .before .before .before .before .before .pre .1 .1) (c .before .before .before .before .half-of .ensures) (c .before .before .before .half-of2 .ensures),
-    (omega (arith, c .before .if1 .left), λ t. rw (c .before .before .before .before .before .frac2 .ensures) (factor-half (c .before .before .before .before .before .before .before .before .before .before .before .before .args .s .span) (eqb-false _ _ (not-true _ t)))))
+blend-lanes-requires c κs = let u = c .before .before .before .before .before .before .before .before .before .before .before .before .args .used in (
+  grow-room (u - 1) u (c .before .before .before .before .before .before .before .before .before .before .before .before .pre .1 .1) (c .before .before .before .before .half-of .ensures) (c .before .before .before .half-of2 .ensures),
+  (omega (arith, c .before .if1 .left), λ t. rw (c .before .before .before .before .before .frac2 .ensures) (factor-half (c .before .before .before .before .before .before .before .before .before .before .before .before .args .s .span) (eqb-false _ _ (not-true _ t)))),
+)
 
 same-length-2 : tie.Need-same-length-2
 same-length-2 c = search needs

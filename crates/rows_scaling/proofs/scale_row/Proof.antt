@@ -28,9 +28,10 @@ mul-t11 c = search needs
 
 make-row-requires : tie.Need-make-row-requires
 make-row-requires c κs = let a = c .before .before .before .before .before .before .before .before .before .args in
-    let z = rw (c .before .before .before .before .enum-told .given .1) at (c .before .before .before .before .before .before .check-scale .ensures) in
-    (row-asks (a .crop) (a .target) (a .used) (a .row) (a .out .now) (a .work .now) z (c .before .before .before .span .ensures),
-    room-asks (a .crop) (a .target) (a .used) (a .row) (a .out .now) (a .work .now) z (c .before .before .before .span .ensures))
+    let z = rw (c .before .before .before .before .enum-told .given .1) at (c .before .before .before .before .before .before .check-scale .ensures) in (
+      row-asks (a .crop) (a .target) (a .used) (a .row) (a .out .now) (a .work .now) z (c .before .before .before .span .ensures),
+      room-asks (a .crop) (a .target) (a .used) (a .row) (a .out .now) (a .work .now) z (c .before .before .before .span .ensures),
+    )
 
 same-length : tie.Need-same-length
 same-length c = search needs

@@ -70,9 +70,10 @@ same-length-2 c = search needs
 returns : tie.Need-returns
 unfolding ratio
 returns c = let a = c .before .before .before .before .before .before .before .before .before .before .before .before .before .before .before .before .before .args in
-    let l = c .before .before .before .before .before .before .before .before .before .before .before .before .before .before .before .before .before .pre .1 .0 in
-    (take-out (scaleIn (a .s)) (a .used) (a .row) (a .work .now) l (c .before .before .before .before .before .before .before .if1 .taken) (c .before .before .before .before .take-lanes .ensures .0),
-    take-work (scaleIn (a .s)) (a .used) (a .row) (a .work .now) l (c .before .before .before .before .before .before .before .if1 .taken) (c .before .before .before .before .take-lanes .ensures .1))
+    let l = c .before .before .before .before .before .before .before .before .before .before .before .before .before .before .before .before .before .pre .1 .0 in (
+      take-out (scaleIn (a .s)) (a .used) (a .row) (a .work .now) l (c .before .before .before .before .before .before .before .if1 .taken) (c .before .before .before .before .take-lanes .ensures .0),
+      take-work (scaleIn (a .s)) (a .used) (a .row) (a .work .now) l (c .before .before .before .before .before .before .before .if1 .taken) (c .before .before .before .before .take-lanes .ensures .1),
+    )
 
 cast-signed : tie.Need-cast-signed
 cast-signed c = search needs
@@ -98,9 +99,10 @@ returns-2 : tie.Need-returns-2
 unfolding ratio
 returns-2 c = let a = c .before .before .before .before .before .before .before .before .before .before .before .before .before .before .before .before .before .before .args in
     let l = c .before .before .before .before .before .before .before .before .before .before .before .before .before .before .before .before .before .before .pre .1 .0 in
-    let step = step-of (a .s .h) (a .s .g) (a .used) (a .row) (c .before .before .before .before .before .before .before .before .before .before .before .before .before .frac .ensures) (c .before .before .before .before .before .before .before .before .before .before .before .before .wrapping-mul .ensures) in
-    (shrink-out (scaleIn (a .s)) (a .used) (a .row) (a .work .now) l refl step (c .before .before .before .before .before .before .before .before .if1 .left) (c .before .before .before .before .shrink-lanes .ensures .0),
-    shrink-work (scaleIn (a .s)) (a .used) (a .row) (a .work .now) l refl step (c .before .before .before .before .before .before .before .before .if1 .left) (c .before .before .before .before .shrink-lanes .ensures .1))
+    let step = step-of (a .s .h) (a .s .g) (a .used) (a .row) (c .before .before .before .before .before .before .before .before .before .before .before .before .before .frac .ensures) (c .before .before .before .before .before .before .before .before .before .before .before .before .wrapping-mul .ensures) in (
+      shrink-out (scaleIn (a .s)) (a .used) (a .row) (a .work .now) l refl step (c .before .before .before .before .before .before .before .before .if1 .left) (c .before .before .before .before .shrink-lanes .ensures .0),
+      shrink-work (scaleIn (a .s)) (a .used) (a .row) (a .work .now) l refl step (c .before .before .before .before .before .before .before .before .if1 .left) (c .before .before .before .before .shrink-lanes .ensures .1),
+    )
 
 pub shrink-row-spec : {M : Type 1} → statement M
 shrink-row-spec =
