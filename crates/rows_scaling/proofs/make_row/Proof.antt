@@ -6,7 +6,7 @@ use Rattle.rows_scaling.proofs.make_row.Statement.{statement}
 use Rattle.rows_scaling.proofs.make_row.Tie as tie
 
 shrink-row-requires : tie.Need-shrink-row-requires
-shrink-row-requires c κs = search needs
+shrink-row-requires c κs = let b = c .before .before .before .before .before .before in (b .pre .0, (c .before .before .if1 .taken, b .pre .1))
 
 same-length : tie.Need-same-length
 same-length c = search needs
@@ -15,10 +15,10 @@ same-length-2 : tie.Need-same-length-2
 same-length-2 c = search needs
 
 returns : tie.Need-returns
-returns c = search needs
+returns c = c .before .before .before .before .shrink-row .ensures
 
 grow-row-requires : tie.Need-grow-row-requires
-grow-row-requires c κs = search needs
+grow-row-requires c κs = let b = c .before .before .before .before .before .before in (b .pre .0, (c .before .before .if1 .left, b .pre .1))
 
 same-length-3 : tie.Need-same-length-3
 same-length-3 c = search needs
