@@ -23,7 +23,7 @@ pub fn bad_side(side: u64) -> bool
     side > MAX_DIMENSION as u64
 }
 
-// A side of the size is 0 or above the limit: number 1 of one size. Rules out: only the width tested; half of the height tested.
+// A side of the size is 0 or above the limit: number 1 of one size. Rules out: only the width tested; half of the width tested.
 pub fn bad_size(size: Dimensions) -> bool
     ensures { λ r. ⌜ r ≡ badSize size ⌝ }
 {
