@@ -7,9 +7,9 @@ use mathlib.Core.Logic.{⊎-elim}
 use native.Mathlib.Omega.{arith}
 use native.Mathlib.Nat.{mul-le-mul-left, mul-le-mul-right, mul-zero, zero-div, le-refl}
 use native.Mathlib.Numerals.{add-one}
-use lib.Dec.{eqb, lit<}
+use lib.Dec.{eqb, ltb, lit<}
 use lib.ListN.{getD, drop}
-use borrow.Author.Tests.{le-leb, lt-leb, eq-eqb, ne-eqb}
+use borrow.Author.Tests.{le-leb, lt-leb, eq-eqb, ne-eqb, ltb-true}
 use Rattle.arithmetic.specs.Word.{wrapSub, wrapMul}
 use Rattle.arithmetic.specs.FixedPoint.{MULT, FLOOR, FRAC}
 use Rattle.arithmetic.specs.Table.{tabulate}
@@ -78,6 +78,15 @@ ratio-most sp h g s p l =
 -- and below 2^31 for a span and heights that are tested once a row; the factor of a height that grows is so for every span but 2
 pub ratio-half : (sp h g : ℕ) → 2 * g < sp * h → g * 2 ^ 32 / (sp * h) < 2 ^ 31
 ratio-half sp h g l = div-bound (sp * h) (omega arith) (omega arith)
+
+-- the same of q as the code has it
+pub ratio-word : (sp h g : ℕ) {q : ℕ} → 1 ≤ sp → 1 ≤ h → g ≤ h → q ≡ ratio sp h g → q ≤ 2 ^ 32
+unfolding ratio
+ratio-word sp h g s p l is = rw is (ratio-most sp h g s p l)
+
+pub ratio-below : (sp h g : ℕ) {q : ℕ} → q ≡ ratio sp h g → ltb (2 * g) (sp * h) ≡ true → q < 2 ^ 31
+unfolding ratio
+ratio-below sp h g is t = rw is (ratio-half sp h g (ltb-true (2 * g) (sp * h) t))
 
 pub factor-half : (sp : ℕ) → (sp ≡ 2 → ⊥) → FRAC 1 sp < 2 ^ 31
 unfolding FRAC

@@ -13,12 +13,15 @@ use rows_due::due;
 use std::num::wrapping_sub_u32;
 ghost use mathlib.Core.Path.{_≡_};
 ghost use mathlib.Core.List.{_++_};
-ghost use Prim.Native.Nat.{_+_, _^_, _≤_, _<_};
+ghost use Prim.Native.Nat.{_+_, _*_, _^_, _≤_, _<_};
+ghost use lib.Dec.{ltb};
 ghost use lib.ListN.{length, drop};
+ghost use Rattle.arithmetic.specs.Word.{wrapMul};
+ghost use Rattle.arithmetic.specs.FixedPoint.{FRAC};
 ghost use Rattle.arithmetic.specs.Table.{tabulate};
 ghost use Rattle.arithmetic.specs.Weight as weight;
 ghost use Rattle.pixels.specs.Refusals.{checkedNumber};
-ghost use Rattle.rows.specs.Output.{clamp, mixed};
+ghost use Rattle.rows.specs.Output.{clamp, restDown, ratio, mixed};
 ghost use Rattle.rows.specs.WorkRows.{halfOf, byteOut, rowLeft};
 ghost use Rattle.rows_scaling.specs.Scaling.{scaleNumber, scaledOut, scaledWork};
 ghost use Rattle.rows_scaling.specs.Inner.Scaling.{scaleIn, RowAsks, RoomAsks, GrowAsks, Halved, shrinkLeft, shrinkByte, lowByte, growByte};
@@ -150,9 +153,33 @@ fn span(n: u32, m: u32) -> u32
     m - 1
 }
 
-// The height does not grow: the Rust's export_row_shrink and export_row_special. FLOOR with the factor 0 is 0, so that d = 0 is no case of its own.
-// The sizes are tested, and not the ratio: a compiler that knew the ratio below 2^31 would drop the signed test of `byte_of`, and the saturating pack
-// with it.
+// The factor that f of each value is taken by: FRAC(1,g)×d modulo 2^32. FLOOR with the factor 0 is 0, so that d = 0 is no case of its own.
+fn share_step(s: RowScale, used: u32, row: u32) -> u32
+    requires { ⌜ RowAsks (scaleIn s) used row ⌝ }
+    requires { ⌜ s .g ≤ s .h ⌝ }
+    ensures { λ r. ⌜ r ≡ wrapMul (FRAC 1 (s .g)) (restDown (s .h) (s .g) used row) ⌝ }
+{
+    let d = (used as u64 * s.g as u64 - (row as u64 + 1) * s.h as u64) as u32;
+    wrapping_mul(frac(1, s.g), d)
+}
+
+// q, which is 2^32 at the most.
+fn ratio_of(s: RowScale) -> u64
+    requires { ⌜ (1 ≤ s .span) × (1 ≤ s .h) ⌝ }
+    ensures { λ r. ⌜ r ≡ ratio (s .span) (s .h) (s .g) ⌝ }
+{
+    s.g as u64 * 4294967296 / (s.span as u64 * s.h as u64)
+}
+
+// Whether q is below 2^31. The sizes are tested, and not q: a compiler that knew the ratio below 2^31 would drop the signed test of `byte_of`, and the
+// saturating pack with it.
+fn below_half(s: RowScale) -> bool
+    ensures { λ r. ⌜ r ≡ ltb (2 * s .g) (s .span * s .h) ⌝ }
+{
+    2 * (s.g as u64) < s.span as u64 * s.h as u64
+}
+
+// The height does not grow. The Rust: Rescaler::export_row_shrink, and export_row_special where q is 2^32.
 fn shrink_row(s: RowScale, used: u32, row: u32, out: &mut [u8], work: &mut [u32])
     requires { ⌜ RowAsks (scaleIn s) used row ⌝ }
     requires { ⌜ s .g ≤ s .h ⌝ }
@@ -160,17 +187,14 @@ fn shrink_row(s: RowScale, used: u32, row: u32, out: &mut [u8], work: &mut [u32]
     ensures out { λ _. ⌜ now (out .exit) ≡ tabulate (byteOut (scaleIn s) used row (now (work .entry))) (s .w) ⌝ }
     ensures work { λ _. ⌜ now (work .exit) ≡ rowLeft (scaleIn s) used row (now (work .entry)) ⌝ }
 {
-    let d = (used as u64 * s.g as u64 - (row as u64 + 1) * s.h as u64) as u32;
-    let step = wrapping_mul(frac(1, s.g), d);
-    let whole = s.span as u64 * s.h as u64;
-    let q = s.g as u64 * 4294967296 / whole;
+    let step = share_step(s, used, row);
+    let q = ratio_of(s);
     let w = s.w;
     if q == 4294967296 {
         take_lanes(work, w, out);
         return;
     }
-    let signed = 2 * (s.g as u64) < whole;
-    shrink_lanes(work, w, step, q as u32, signed, out);
+    shrink_lanes(work, w, step, q as u32, below_half(s), out);
 }
 
 // The height grows: the Rust's export_row_expand; no work value changes. The factor is 2^31 or more for span 2 alone, which is tested for the same
