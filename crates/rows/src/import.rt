@@ -18,7 +18,7 @@ ghost use Rattle.arithmetic.specs.Word.{wrapAdd, wrapMul};
 ghost use Rattle.pixels.specs.Sizes.{maxSide, pixelLanes};
 ghost use Rattle.pixels.specs.Refusals.{checkedNumber};
 ghost use Rattle.rows.specs.Import.{importNumber, importHalf};
-ghost use Rattle.rows.specs.Inner.Import.{at, Four, stored, laneBytes, PixelAsks, Reads, Within, InLanes, GatherAsks, Gathers, Finished, ColumnAsks, Columns, writtenRow, RowAsks, Second, AdvanceAsks, Advances};
+ghost use Rattle.rows.specs.Inner.Import.{at, Four, stored, laneBytes, mattedAt, PixelAsks, Within, InLanes, GatherAsks, Gathers, Finished, ColumnAsks, Columns, writtenRow, RowAsks, Second, AdvanceAsks, Advances};
 
 // A number for each lane, or for each byte of a pixel.
 struct Quad {
@@ -50,28 +50,40 @@ fn add4(x: Quad, y: Quad) -> Quad
     }
 }
 
-// The bytes of a pixel in their order, matted, and its alpha apart. What stands at the alpha's own place is a product that nobody reads.
-struct Matted {
-    bytes: Quad,
-    alpha: u32,
-}
-
-// Pixel x, its alpha at `pa`: like work on like bytes makes one vector of them.
-fn read_matted(row: &[u8], x: usize, pa: usize) -> Matted
+// The four bytes of pixel x, in their order, each times the alpha at `pa`: like work on like bytes makes one vector of them.
+// What stands at `pa` itself is a product that nobody reads.
+fn read_matted(row: &[u8], x: usize, pa: usize) -> Quad
     requires { ⌜ PixelAsks (now row) x ⌝ }
     requires { ⌜ pa < pixelLanes ⌝ }
-    ensures { λ r. ⌜ Reads (now (row .entry)) x pa (r .bytes) (r .alpha) ⌝ }
+    ensures { λ r. ⌜ Four (λ k. at r k ≡ mattedAt (now (row .entry)) pa k x) ⌝ }
 {
     let i = PIXEL_LANES * x;
     let alpha = row[i + pa];
-    Matted {
-        bytes: Quad {
-            a: matte(row[i], alpha),
-            b: matte(row[i + 1], alpha),
-            c: matte(row[i + 2], alpha),
-            d: matte(row[i + 3], alpha),
-        },
-        alpha: alpha as u32,
+    Quad {
+        a: matte(row[i], alpha),
+        b: matte(row[i + 1], alpha),
+        c: matte(row[i + 2], alpha),
+        d: matte(row[i + 3], alpha),
+    }
+}
+
+// Pixel x as lanes B, G, R, A.
+fn read_lanes(row: &[u8], x: usize, p: Places) -> Quad
+    requires { ⌜ PixelAsks (now row) x ⌝ }
+    requires { ⌜ Within p ⌝ }
+    ensures { λ r. ⌜ Four (λ k. at r k ≡ laneBytes p (now (row .entry)) k x) ⌝ }
+{
+    let i = PIXEL_LANES * x;
+    let b = i + p.b;
+    let g = i + p.g;
+    let r = i + p.r;
+    let a = i + p.a;
+    let alpha = row[a];
+    Quad {
+        a: matte(row[b], alpha),
+        b: matte(row[g], alpha),
+        c: matte(row[r], alpha),
+        d: alpha as u32,
     }
 }
 
@@ -92,49 +104,40 @@ fn in_lanes(bytes: Quad, alpha: u32, p: Places) -> Quad
     }
 }
 
-// Pixel x as lanes B, G, R, A.
-fn read_lanes(row: &[u8], x: usize, p: Places) -> Quad
-    requires { ⌜ PixelAsks (now row) x ⌝ }
-    requires { ⌜ Within p ⌝ }
-    ensures { λ r. ⌜ Four (λ k. at r k ≡ laneBytes p (now (row .entry)) k x) ⌝ }
-{
-    let pixel = read_matted(row, x, p.a);
-    in_lanes(pixel.bytes, pixel.alpha, p)
-}
-
 struct Gathered {
     sum: Quad,
+    last: Quad,
     alpha: u32,
-    last: Matted,
+    base: u32,
     next: usize,
     got: usize,
 }
 
-// Sums pixels from `from` on until they make `need`, m each; the bytes in their order, the alpha apart.
+// Sums pixels from `from` on until they make `need`, m each; `last` and `base` are the last pixel. Bytes in their order, the alpha apart.
 // The Rust: the inner loop of Rescaler::import_row_shrink.
 fn gather(row: &[u8], m: usize, need: usize, from: usize, pa: usize) -> Gathered
     requires { ⌜ GatherAsks (now row) (length (now row) / pixelLanes) m need from pa ⌝ }
-    ensures { λ r. ⌜ Gathers (now (row .entry)) m need from pa (r .sum) (r .last .bytes) (r .alpha) (r .last .alpha) (r .next) (r .got) ⌝ }
+    ensures { λ r. ⌜ Gathers (now (row .entry)) m need from pa (r .sum) (r .last) (r .alpha) (r .base) (r .next) (r .got) ⌝ }
 {
     let mut sum = zero4();
+    let mut last = zero4();
     let mut alpha = 0u32;
-    let mut last = Matted {
-        bytes: zero4(),
-        alpha: 0,
-    };
+    let mut base = 0u32;
     let mut x = from;
     let mut got = 0usize;
     while got < need {
         got += m;
         last = read_matted(row, x, pa);
-        sum = add4(sum, last.bytes);
-        alpha = wrapping_add_u32(alpha, last.alpha);
+        sum = add4(sum, last);
+        base = row[PIXEL_LANES * x + pa] as u32;
+        alpha = wrapping_add_u32(alpha, base);
         x += 1;
     }
     Gathered {
         sum,
-        alpha,
         last,
+        alpha,
+        base,
         next: x,
         got,
     }
@@ -183,8 +186,7 @@ fn make_column(
     let g = gather(row, m, need, x, pa);
     let over = g.got - need;
     let sum = add4(carry, in_lanes(g.sum, g.alpha, p));
-    let pixel = g.last;
-    let last = in_lanes(pixel.bytes, pixel.alpha, p);
+    let last = in_lanes(g.last, g.base, p);
     let o = over as u32;
     let w = m as u32;
     let a = finish(w, scale, o, sum.a, last.a);
@@ -282,27 +284,23 @@ fn second(n: usize) -> usize
 }
 
 // One column on: by `step` of the parts, into the next pixel where the left one has fewer.
-fn advance(row: &[u8], span: u32, step: u32, s: Stand, p: Places) -> Stand
+fn advance(row: &[u8], span: u32, step: u32, mut s: Stand, p: Places) -> Stand
     requires { ⌜ AdvanceAsks (now row) (length (now row) / pixelLanes) span step (s .left) (s .right) (s .x) (s .acc) p ⌝ }
     ensures { λ r. ⌜ Advances (now (row .entry)) (length (now (row .entry)) / pixelLanes) span step p (s .x) (s .acc) (r .left) (r .right) (r .x) (r .acc) ⌝ }
 {
-    let right = s.right;
-    if s.acc < step {
-        let next = s.x + 2;
+    let acc = s.acc;
+    if acc < step {
+        let left = s.right;
+        let x = s.x + 1;
         return Stand {
-            left: right,
-            right: read_lanes(row, next, p),
-            x: s.x + 1,
-            acc: s.acc + span - step,
+            left,
+            right: read_lanes(row, x + 1, p),
+            x,
+            acc: acc + span - step,
         };
     }
-    let left = s.left;
-    Stand {
-        left,
-        right,
-        x: s.x,
-        acc: s.acc - step,
-    }
+    s.acc = acc - step;
+    s
 }
 
 // Every column where the width grows. The Rust: Rescaler::import_row_expand; libwebp: WebPRescalerImportRowExpand_C.

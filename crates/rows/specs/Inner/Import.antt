@@ -63,10 +63,6 @@ pub record PixelAsks (s : List ℕ) (x : ℕ) : Type 0 where
   pub whole : pixelLanes * x + pixelLanes ≤ length s
   pub small : x < maxSide
 
-pub record Reads (s : List ℕ) (x pa : ℕ) (bytes : Quad) (alpha : ℕ) : Type 0 where
-  pub colours : Four (λ k. at bytes k ≡ mattedAt s pa k x)
-  pub alpha-is : alpha ≡ byteAt s pa x
-
 pub record InLanes (p : Places) (bytes : Quad) (alpha : ℕ) (r : Quad) : Type 0 where
   pub blue : r .a ≡ at bytes (p .b)
   pub green : r .b ≡ at bytes (p .g)
