@@ -13,12 +13,13 @@ use rows_adding::add_halves;
 use rows::import_row;
 use rows_restoring::restore_row;
 use rows_scaling::scale_row;
+use rows_schedule::counts_fit;
 use rows_schedule::rows_by;
 use rows_schedule::used_rows;
 ghost use mathlib.Core.Path.{_≡_};
 ghost use mathlib.Core.Bool.{cond, _||_};
 ghost use mathlib.Core.List.{_++_};
-ghost use Prim.Native.Nat.{_-_, _≤_};
+ghost use Prim.Native.Nat.{_≤_};
 ghost use lib.Dec.{leb, ltb};
 ghost use lib.ListN.{length, drop, replicate};
 ghost use Rattle.pixels.specs.Refusals.{checkedNumber, flaggedFlag};
@@ -84,15 +85,6 @@ fn made(p: Plan, accepted: u32) -> u64
     ensures { λ r. ⌜ r ≡ R p accepted ⌝ }
 {
     rows_by(p.crop.y, p.crop.height, p.target.height, accepted)
-}
-
-fn less_one(k: u32) -> u32
-    ensures { λ r. ⌜ r ≡ k - 1 ⌝ }
-{
-    if k == 0 {
-        return 0;
-    }
-    k - 1
 }
 
 // The rows lent or those that the source has left, whichever are fewer; n is the number of bytes lent.
@@ -317,7 +309,7 @@ pub fn start(
 }
 
 impl Job {
-    // The record rules. Rules out: a flag before the first row taken; a count above what the rows accepted make.
+    // The record rules. Rules out: a flag before the first row taken; the rows accepted held to the crop's height.
     pub fn check(self) -> bool
         ensures { λ r. ⌜ r ≡ lawful self ⌝ }
     {
@@ -329,13 +321,14 @@ impl Job {
             }
             Checked::Fit => {}
         }
-        if p.source.height < self.accepted {
-            return false;
-        }
-        if (self.taken as u64) < made(p, less_one(self.accepted)) {
-            return false;
-        }
-        if made(p, self.accepted) < self.taken as u64 {
+        if !counts_fit(
+            p.crop.y,
+            p.crop.height,
+            p.target.height,
+            p.source.height,
+            self.accepted,
+            self.taken,
+        ) {
             return false;
         }
         if self.taken != 0 {

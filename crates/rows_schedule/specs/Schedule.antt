@@ -1,7 +1,7 @@
 -- The schedule (document 01, "The job" and "A row goes out"): how many output rows are made by how many crop rows. Crop height h, target
 -- height g, both at least 1. Assumes nothing.
 use Prim.Native.Nat.{ℕ, zero, suc, _+_, _-_, _*_, _/_, min}
-use mathlib.Core.Bool.{cond}
+use mathlib.Core.Bool.{Bool, cond, _&&_}
 use lib.Dec.{leb, eqb}
 use Rattle.arithmetic.specs.Quotient.{ceil}
 
@@ -16,6 +16,10 @@ made h g u = cond (leb g h) (u * g / h) (cond (eqb u 0) 0 (cond (eqb h 1) g (1 +
 -- R(k)
 abbrev pub rowsBy : ℕ → ℕ → ℕ → ℕ → ℕ
 rowsBy top h g k = made h g (used top h k)
+
+-- "k ≤ source height; R(k-1) ≤ t ≤ R(k) (t = 0 if k = 0)". For k = 0 the difference k - 1 is 0, and R(0) is 0.
+unfoldable pub countsFit : ℕ → ℕ → ℕ → ℕ → ℕ → ℕ → Bool
+countsFit top h g source k t = leb k source && leb (rowsBy top h g (k - 1)) t && leb t (rowsBy top h g k)
 
 -- U Y, the crop rows that output row Y needs: the least u with R above Y (the laws say so)
 unfoldable pub needed : ℕ → ℕ → ℕ → ℕ

@@ -1,7 +1,8 @@
 // How many output rows a number of crop rows makes (document 01, "The job"; libwebp: utils/rescaler_utils.c).
 // Every function answers for all arguments. A crop height of 0, which no job has, gets what the definition says with the library's x / 0 = 0.
 ghost use mathlib.Core.Path.{_≡_};
-ghost use Rattle.rows_schedule.specs.Schedule.{used, made, rowsBy};
+ghost use Prim.Native.Nat.{_-_};
+ghost use Rattle.rows_schedule.specs.Schedule.{used, made, rowsBy, countsFit};
 
 // u: how many crop rows are among the first source rows, `accepted` of them.
 // Rules out: a count that runs on below the crop; one that starts at the picture's top.
@@ -47,4 +48,35 @@ pub fn rows_by(top: u32, height: u32, target: u32, accepted: u32) -> u64
     ensures { λ r. ⌜ r ≡ rowsBy top height target accepted ⌝ }
 {
     made_rows(height, target, used_rows(top, height, accepted))
+}
+
+fn less_one(k: u32) -> u32
+    ensures { λ r. ⌜ r ≡ k - 1 ⌝ }
+{
+    if k == 0 {
+        return 0;
+    }
+    k - 1
+}
+
+// The counts that calls can reach: k ≤ source height, R(k-1) ≤ t ≤ R(k).
+// Rules out: R(k-1) asked at k; R(k-1) asked of the rows taken; a count above R(k).
+pub fn counts_fit(
+    top: u32,
+    height: u32,
+    target: u32,
+    source: u32,
+    accepted: u32,
+    taken: u32,
+) -> bool
+    ensures { λ r. ⌜ r ≡ countsFit top height target source accepted taken ⌝ }
+{
+    if source < accepted {
+        return false;
+    }
+    let before = less_one(accepted);
+    if (taken as u64) < rows_by(top, height, target, before) {
+        return false;
+    }
+    taken as u64 <= rows_by(top, height, target, accepted)
 }
