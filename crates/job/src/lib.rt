@@ -1,6 +1,5 @@
 // The job (document 01, "The job"; the Rust: Rescaler and rescale_plane of geometry.rs): a record by value that every call takes and hands back.
 // The caller lends the rows, the work values and the output row. Fields are public: a record that meets the rules counts, whoever filled it.
-use pixels_crop::window;
 use pixels::Checked;
 use pixels::Dimensions;
 use pixels::Flagged;
@@ -9,22 +8,21 @@ use pixels::PixelLayout;
 use pixels::Rect;
 use pixels::Refusal;
 use pixels::check_sizes;
-use rows_adding::add_halves;
-use rows::import_row;
+use pixels_crop::window;
+use rows_adding::put_row;
 use rows_restoring::restore_row;
 use rows_scaling::scale_row;
 use rows_schedule::counts_fit;
 use rows_schedule::rows_by;
 use rows_schedule::used_rows;
 ghost use mathlib.Core.Path.{_≡_};
-ghost use mathlib.Core.Bool.{cond, _||_};
+ghost use mathlib.Core.Bool.{_||_};
 ghost use mathlib.Core.List.{_++_};
 ghost use Prim.Native.Nat.{_≤_};
-ghost use lib.Dec.{leb, ltb};
+ghost use lib.Dec.{ltb};
 ghost use lib.ListN.{length, drop, replicate};
 ghost use Rattle.pixels.specs.Refusals.{checkedNumber, flaggedFlag};
-ghost use Rattle.pixels.specs.Sizes.{rowBytes, halfValues, workValues};
-ghost use Rattle.rows.specs.WorkRows.{halfOf};
+ghost use Rattle.pixels.specs.Sizes.{rowBytes, workValues};
 ghost use Rattle.job.specs.Answers.{startedNumber, startedJob, offeredNumber, offeredRows, offeredJob, takenNumber, takenJob};
 ghost use Rattle.job.specs.Record.{lanesOf, R, planOf, fresh, lawful, readyOf, Rules};
 ghost use Rattle.job.specs.Inner.{RowAsks};
@@ -164,21 +162,7 @@ fn check_take(j: Job, bytes: usize, work: usize) -> Checked
 
 // ---- a row comes in
 
-// Where in the work rows the values of crop row c go.
-fn half_for(p: Plan, c: u32) -> usize
-    ensures { λ r. ⌜ r ≡ cond (leb (p .target .height) (p .crop .height)) (halfValues (lanesOf p) (p .target .width)) (halfOf (halfValues (lanesOf p) (p .target .width)) c) ⌝ }
-{
-    let w = row_bytes(p, p.target.width);
-    if p.target.height <= p.crop.height {
-        return w;
-    }
-    if c % 2 == 0 {
-        return w;
-    }
-    0
-}
-
-// Source row s. The Rust: a turn of Rescaler::import. Its crop window is a part of the row as lent; the layer below refuses none of these calls.
+// Source row s. The Rust: a turn of Rescaler::import. Its crop window is a part of the row as lent; the layer below does not refuse it.
 fn row_in(p: Plan, row: &[u8], s: u32, work: &mut [u32])
     requires { ⌜ RowAsks p (now row) (now work) ⌝ }
     ensures { λ _. ⌜ now (work .exit) ≡ rowAccepted p (now (row .entry)) s (now (work .entry)) ⌝ }
@@ -190,14 +174,13 @@ fn row_in(p: Plan, row: &[u8], s: u32, work: &mut [u32])
     if p.crop.height <= c {
         return;
     }
-    let at = half_for(p, c);
     let part = window(row, p.crop.x, p.crop.width);
+    let crop = Dimensions {
+        width: p.crop.width,
+        height: p.crop.height,
+    };
     let layout = p.layout;
-    import_row(layout, p.crop.width, p.target.width, part, &mut work[at..]);
-    if p.crop.height < p.target.height {
-        return;
-    }
-    add_halves(p.target.width, work);
+    put_row(layout, crop, p.target, c, part, work);
 }
 
 // The rows of an offer that passed its tests, one after another (the Rust: Rescaler::import): "stops at the first row that makes an output row ready, at the last offered or at

@@ -1,4 +1,4 @@
-// A crop row that came in is added to the rows before it (document 01, "A row comes in"; the Rust: the accumulation of Rescaler::import).
+// A crop row comes into the work rows (document 01, "A row comes in"; the Rust: Rescaler::import). Here the halves are added; `put` has the whole row.
 use pixels::Checked;
 use pixels::PIXEL_LANES;
 use pixels::Refusal;
@@ -10,6 +10,10 @@ ghost use lib.ListN.{length};
 ghost use Rattle.pixels.specs.Refusals.{checkedNumber};
 ghost use Rattle.rows.specs.WorkRows.{added};
 ghost use Rattle.rows_adding.specs.Adding.{addNumber, addWork};
+
+mod put;
+
+pub use put::put_row;
 
 fn add_to_first(work: &mut [u32], w: usize)
     requires { ⌜ w + w ≤ length (now work) ⌝ }

@@ -16,9 +16,9 @@ use Rattle.pixels.proofs.Truths.{not-false, same, same-of}
 use Rattle.pixels.proofs.Causes.{first-none, none-applies}
 use Rattle.pixels.proofs.Numbers.{buffer-refused, buffer-written}
 use Rattle.pixels.proofs.Fitting.{size-of}
-use Rattle.rows.specs.WorkRows.{Scale, byteOut, rowLeft}
+use Rattle.rows.specs.WorkRows.{Scale, scaleOf, byteOut, rowLeft}
 use Rattle.rows_due.specs.Due.{due}
-use Rattle.rows_scaling.specs.Scaling.{scaleOf, scaleCauses, scaleNumber, scaledOut, scaledWork}
+use Rattle.rows_scaling.specs.Scaling.{scaleCauses, scaleNumber, scaledOut, scaledWork}
 use Rattle.rows_scaling.specs.Inner.Scaling.{RowAsks, RoomAsks}
 use Rattle.rows_scaling.proofs.Factors.{span-some}
 

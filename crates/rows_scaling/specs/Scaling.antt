@@ -5,22 +5,12 @@ use mathlib.Core.Bool.{not}
 use mathlib.Core.List.{List, [], _∷_}
 use lib.ListN.{length}
 use Rattle.arithmetic.specs.Table.{tabulate}
-use Rattle.arithmetic.specs.Weight.{span}
 use Rattle.pixels.specs.declared.Dimensions.{Dimensions}
 use Rattle.pixels.specs.declared.Refusal.the-variants.{OutputLength, WorkLength, NoneReady}
 use Rattle.pixels.specs.Refusals.{Cause, cause, first, otherLength, fewWork, bufferIf}
-use Rattle.pixels.specs.Sizes.{pixelLanes, rowBytes, halfValues, workValues, wrongSize}
+use Rattle.pixels.specs.Sizes.{pixelLanes, rowBytes, workValues, wrongSize}
 use Rattle.rows_due.specs.Due.{due}
-use Rattle.rows.specs.WorkRows.{Scale, byteOut, rowLeft}
-
--- what the rows of a crop and a target are scaled by
-abbrev pub scaleOf : Dimensions → Dimensions → Scale
-scaleOf crop target = record {
-  span = span (crop .width) (target .width);
-  h = crop .height;
-  g = target .height;
-  w = halfValues pixelLanes (target .width);
-}
+use Rattle.rows.specs.WorkRows.{scaleOf, byteOut, rowLeft}
 
 -- 1, 4, 5 and 9, ascending
 abbrev pub scaleCauses : Dimensions → Dimensions → ℕ → ℕ → ℕ → ℕ → List Cause
