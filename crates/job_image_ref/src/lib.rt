@@ -1,14 +1,14 @@
 // A borrowed picture (document 01, "Lanes": "A borrowed picture, as `ImageRef`, holds size, layout and pixels"; the Rust: ImageRef of image.rs).
 // Each function over it takes it apart and calls a function of plain parameters, which does the work.
 use job_resize::resize;
-use pixels_crop::crop;
-use pixels_alpha::check_picture;
-use pixels_alpha::picture_has_alpha;
 use pixels::Checked;
 use pixels::Dimensions;
 use pixels::Flagged;
 use pixels::PixelLayout;
 use pixels::Rect;
+use pixels_alpha::check_picture;
+use pixels_alpha::picture_has_alpha;
+use pixels_crop::crop;
 ghost use mathlib.Core.Path.{_≡_};
 ghost use lib.ListN.{length};
 ghost use Rattle.pixels.specs.Refusals.{checkedNumber, flaggedNumber, flaggedFlag};

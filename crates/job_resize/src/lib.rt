@@ -14,7 +14,6 @@ use pixels::Refusal;
 use pixels::check_sizes;
 use pixels::wrong_length;
 ghost use mathlib.Core.Path.{_≡_};
-
 ghost use Prim.Native.Nat.{_+_, _*_, _≤_};
 ghost use lib.ListN.{length, take, drop};
 ghost use Rattle.pixels.specs.Refusals.{checkedNumber, flaggedNumber, flaggedFlag};

@@ -21,7 +21,8 @@ same-length c = search needs
 
 returns-3 : tie.Need-returns-3
 returns-3 c = let a = c .before .before .before .before .before .before .before .before .before .before .before .before .args in
-    row-inside (a .p) (a .row .now) (a .s) (a .work .now) (c .before .before .before .before .before .before .before .before .if1 .left) (c .before .before .before .before .before .if2 .left) (c .before .before .before .before .before .before .before .before .before .before .before .before .pre) _ _ (c .before .before .before .before .window .ensures) (c .before .before .put-row .ensures .1)
+    row-inside (a .p) (a .row .now) (a .s) (a .work .now) (c .before .before .before .before .before .before .before .before .if1 .left) (c .before .before .before .before .before .if2 .left)
+    (c .before .before .before .before .before .before .before .before .before .before .before .before .pre) _ _ (c .before .before .before .before .window .ensures) (c .before .before .put-row .ensures .1)
 
 pub row-in-spec : {M : Type 1} → statement M
 row-in-spec =

@@ -37,7 +37,12 @@ add-if5 : tie.Need-add-if5
 add-if5 c = search needs
 
 returns-5 : tie.Need-returns-5
-returns-5 c = let a = c .before .before .before .before .before .before .before .before .before .before .before .before .args in sym (sizes-beyond _ _ _ (right-sizes _ _ _ (sym (c .before .before .before .before .before .before .before .before .before .before .before .bad-size .ensures) ∙ c .before .before .before .before .before .before .before .before .before .before .if1 .left) (sym (c .before .before .before .before .before .before .before .before .before .bad-size2 .ensures) ∙ c .before .before .before .before .before .before .before .before .if2 .left) (not-empty (a .crop) (omega (arith, c .before .before .before .before .before .before .if3 .left)) (omega (arith, c .before .before .before .before .if4 .left)))) (beyond-right _ _ (c .if5 .taken)))
+returns-5 c =
+    let a = (c .before .before .before .before .before .before .before .before .before .before .before .before .args) in
+    let source = sym ((c .before .before .before .before .before .before .before .before .before .before .before .bad-size) .ensures) ∙ (c .before .before .before .before .before .before .before .before .before .before .if1) .left in
+    let target = sym ((c .before .before .before .before .before .before .before .before .before .bad-size2) .ensures) ∙ (c .before .before .before .before .before .before .before .before .if2) .left in
+    let some = not-empty (a .crop) (omega (arith, (c .before .before .before .before .before .before .if3) .left)) (omega (arith, (c .before .before .before .before .if4) .left)) in
+    sym (sizes-beyond _ _ _ (right-sizes _ _ _ source target some) (beyond-right _ _ ((c .if5) .taken)))
 
 cast-if6 : tie.Need-cast-if6
 cast-if6 c = search needs
@@ -52,10 +57,20 @@ add-if6 : tie.Need-add-if6
 add-if6 c = search needs
 
 returns-6 : tie.Need-returns-6
-returns-6 c = let a = c .before .before .before .before .before .before .before .before .before .before .before .before .before .before .before .before .args in sym (sizes-beyond _ _ _ (right-sizes _ _ _ (sym (c .before .before .before .before .before .before .before .before .before .before .before .before .before .before .before .bad-size .ensures) ∙ c .before .before .before .before .before .before .before .before .before .before .before .before .before .before .if1 .left) (sym (c .before .before .before .before .before .before .before .before .before .before .before .before .before .bad-size2 .ensures) ∙ c .before .before .before .before .before .before .before .before .before .before .before .before .if2 .left) (not-empty (a .crop) (omega (arith, c .before .before .before .before .before .before .before .before .before .before .if3 .left)) (omega (arith, c .before .before .before .before .before .before .before .before .if4 .left)))) (beyond-bottom _ _ (c .if6 .taken)))
+returns-6 c =
+    let a = (c .before .before .before .before .before .before .before .before .before .before .before .before .before .before .before .before .args) in
+    let source = sym ((c .before .before .before .before .before .before .before .before .before .before .before .before .before .before .before .bad-size) .ensures) ∙ (c .before .before .before .before .before .before .before .before .before .before .before .before .before .before .if1) .left in
+    let target = sym ((c .before .before .before .before .before .before .before .before .before .before .before .before .before .bad-size2) .ensures) ∙ (c .before .before .before .before .before .before .before .before .before .before .before .before .if2) .left in
+    let some = not-empty (a .crop) (omega (arith, (c .before .before .before .before .before .before .before .before .before .before .if3) .left)) (omega (arith, (c .before .before .before .before .before .before .before .before .if4) .left)) in
+    sym (sizes-beyond _ _ _ (right-sizes _ _ _ source target some) (beyond-bottom _ _ ((c .if6) .taken)))
 
 returns-7 : tie.Need-returns-7
-returns-7 c = let a = c .before .before .before .before .before .before .before .before .before .before .before .before .before .before .before .before .args in sym (sizes-pass _ _ _ (right-sizes _ _ _ (sym (c .before .before .before .before .before .before .before .before .before .before .before .before .before .before .before .bad-size .ensures) ∙ c .before .before .before .before .before .before .before .before .before .before .before .before .before .before .if1 .left) (sym (c .before .before .before .before .before .before .before .before .before .before .before .before .before .bad-size2 .ensures) ∙ c .before .before .before .before .before .before .before .before .before .before .before .before .if2 .left) (not-empty (a .crop) (omega (arith, c .before .before .before .before .before .before .before .before .before .before .if3 .left)) (omega (arith, c .before .before .before .before .before .before .before .before .if4 .left)))) (within _ _ (c .before .before .before .before .if5 .left) (c .if6 .left)))
+returns-7 c =
+    let a = (c .before .before .before .before .before .before .before .before .before .before .before .before .before .before .before .before .args) in
+    let source = sym ((c .before .before .before .before .before .before .before .before .before .before .before .before .before .before .before .bad-size) .ensures) ∙ (c .before .before .before .before .before .before .before .before .before .before .before .before .before .before .if1) .left in
+    let target = sym ((c .before .before .before .before .before .before .before .before .before .before .before .before .before .bad-size2) .ensures) ∙ (c .before .before .before .before .before .before .before .before .before .before .before .before .if2) .left in
+    let some = not-empty (a .crop) (omega (arith, (c .before .before .before .before .before .before .before .before .before .before .if3) .left)) (omega (arith, (c .before .before .before .before .before .before .before .before .if4) .left)) in
+    sym (sizes-pass _ _ _ (right-sizes _ _ _ source target some) (within _ _ ((c .before .before .before .before .if5) .left) ((c .if6) .left)))
 
 pub check-sizes-spec : {M : Type 1} → statement M
 check-sizes-spec =

@@ -37,9 +37,10 @@ same-length c = search needs
 
 returns : tie.Need-returns
 returns c = let a = c .before .before .before .before .before .before .before .before .before .before .before .args in
+    let goes = c .before .before .before .before .before .before .before .before .before .before .before .pre in
     let at = c .before .before .before .before .before .before .before .half-for in
-    let next = row-next (a .layout) (a .crop) (a .target) (a .c) (a .row .now) (a .work .now) (c .before .before .before .before .before .before .before .before .before .before .before .pre) (at .result) (at .ensures) _ (c .before .before .before .before .before .import-row .ensures .1) in
-    row-grows (a .layout) (a .crop) (a .target) (a .c) (a .row .now) (a .work .now) (c .before .before .before .before .before .before .before .before .before .before .before .pre) (at .result) (at .ensures) _ next (c .if1 .taken)
+    let next = row-next (a .layout) (a .crop) (a .target) (a .c) (a .row .now) (a .work .now) goes (at .result) (at .ensures) _ (c .before .before .before .before .before .import-row .ensures .1) in
+    row-grows (a .layout) (a .crop) (a .target) (a .c) (a .row .now) (a .work .now) goes (at .result) (at .ensures) _ next (c .if1 .taken)
 
 add-halves-requires : tie.Need-add-halves-requires
 add-halves-requires c κs = search needs
@@ -49,9 +50,10 @@ same-length-2 c = search needs
 
 returns-2 : tie.Need-returns-2
 returns-2 c = let a = c .before .before .before .before .before .before .before .before .before .before .before .before .before .before .before .args in
+    let goes = c .before .before .before .before .before .before .before .before .before .before .before .before .before .before .before .pre in
     let at = c .before .before .before .before .before .before .before .before .before .before .before .half-for in
-    let next = row-next (a .layout) (a .crop) (a .target) (a .c) (a .row .now) (a .work .now) (c .before .before .before .before .before .before .before .before .before .before .before .before .before .before .before .pre) (at .result) (at .ensures) _ (c .before .before .before .before .before .before .before .before .before .import-row .ensures .1) in
-    row-adds (a .layout) (a .crop) (a .target) (a .c) (a .row .now) (a .work .now) (c .before .before .before .before .before .before .before .before .before .before .before .before .before .before .before .pre) (at .result) (at .ensures) _ next (c .before .before .before .before .if1 .left) _ (c .before .before .add-halves .ensures .1)
+    let next = row-next (a .layout) (a .crop) (a .target) (a .c) (a .row .now) (a .work .now) goes (at .result) (at .ensures) _ (c .before .before .before .before .before .before .before .before .before .import-row .ensures .1) in
+    row-adds (a .layout) (a .crop) (a .target) (a .c) (a .row .now) (a .work .now) goes (at .result) (at .ensures) _ next (c .before .before .before .before .if1 .left) _ (c .before .before .add-halves .ensures .1)
 
 pub row-in-spec : {M : Type 1} → statement M
 row-in-spec =
