@@ -5,7 +5,7 @@ use mathlib.Core.Path.{_≡_}
 use mathlib.Core.Bool.{Bool, true, false}
 use mathlib.Core.List.{List}
 use lib.ListN.{length}
-use Rattle.pixels.specs.declared.PixelLayout.{PixelLayout}
+use Rattle.pixels_layout.specs.declared.PixelLayout.{PixelLayout}
 use Rattle.pixels.specs.declared.Flagged.{Flagged}
 use Rattle.pixels.specs.Refusals.{bufferIf, flagIf, flaggedNumber, flaggedFlag}
 use Rattle.pixels.specs.Sizes.{sizeOf, rectOf}

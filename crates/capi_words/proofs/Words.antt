@@ -7,7 +7,7 @@ use native.Mathlib.Omega.{arith}
 use lib.ListN.{length, getD, set, take, drop}
 use lib.Seq.{paste-suc}
 use borrow.Author.Tests.{le-leb, lt-leb}
-use Rattle.pixels.specs.declared.PixelLayout.the-variants.{Rgba8}
+use Rattle.pixels_layout.specs.declared.PixelLayout.the-variants.{Rgba8}
 use Rattle.capi_words.specs.Words.{wordLayout, stored}
 
 -- every word but 1 and 2 stands for the first layout

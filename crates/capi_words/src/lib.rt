@@ -3,7 +3,7 @@
 use job::Job;
 use job::Plan;
 use pixels::Dimensions;
-use pixels::PixelLayout;
+use pixels_layout::PixelLayout;
 use pixels::Rect;
 ghost use mathlib.Core.Path.{_≡_};
 ghost use Prim.Native.Nat.{_≤_};

@@ -5,10 +5,10 @@ use mathlib.Core.Bool.{true}
 use native.Mathlib.Omega.{arith}
 use Rattle.arithmetic.specs.Matte.{laneOf, multArgb}
 use Rattle.arithmetic.proofs.Mattes.{pixel-cong}
-use Rattle.pixels.specs.declared.PixelLayout.{PixelLayout}
+use Rattle.pixels_layout.specs.declared.PixelLayout.{PixelLayout}
 use Rattle.pixels.specs.Sizes.{pixelLanes, rowBytes, halfValues}
-use Rattle.pixels.specs.Layout.{placeOf, packedByte}
-use Rattle.pixels.specs.Lanes.{restoredPixel, restoredPlace}
+use Rattle.pixels_layout.specs.Layout.{placeOf, packedByte}
+use Rattle.pixels_layout.specs.Lanes.{restoredPixel, restoredPlace}
 
 pub restored-cong : (l : PixelLayout) (v w : ℕ → ℕ) (m z : ℕ) → z < rowBytes pixelLanes m → ((x : ℕ) → x < halfValues pixelLanes m → v x ≡ w x) → restoredPlace l v z ≡ restoredPlace l w z
 unfolding restoredPlace restoredPixel packedByte

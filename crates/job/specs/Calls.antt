@@ -10,7 +10,7 @@ use Rattle.arithmetic.specs.Weight.{span}
 use Rattle.pixels.specs.declared.Refusal.the-variants.{PixelBufferMismatch, OutputLength, WorkLength, InvalidRecord, RowReady, AllAccepted, NoneReady}
 use Rattle.pixels.specs.Refusals.{Cause, cause, first, otherLength, fewWork}
 use Rattle.pixels.specs.Sizes.{rowBytes, halfValues, workValues, sizesCauses}
-use Rattle.pixels.specs.Lanes.{matted, restoredPlace}
+use Rattle.pixels_layout.specs.Lanes.{matted, restoredPlace}
 use Rattle.pixels_alpha.specs.Alpha.{hasAlpha}
 use Rattle.pixels_crop.specs.Crop.{windowOf, pictureRow}
 use Rattle.rows_schedule.specs.Schedule.{used}

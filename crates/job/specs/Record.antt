@@ -5,7 +5,7 @@ use mathlib.Core.Bool.{Bool, false, cond, not, _||_, _&&_}
 use lib.Dec.{eqb}
 use Rattle.pixels.specs.declared.Dimensions.{Dimensions}
 use Rattle.pixels.specs.declared.Rect.{Rect}
-use Rattle.pixels.specs.declared.PixelLayout.{PixelLayout}
+use Rattle.pixels_layout.specs.declared.PixelLayout.{PixelLayout}
 use Rattle.pixels.specs.Sizes.{pixelLanes, sizesNumber, Fits}
 use Rattle.rows_schedule.specs.Schedule.{rowsBy, countsFit}
 use Rattle.job.specs.declared.Plan.{Plan}

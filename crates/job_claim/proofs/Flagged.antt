@@ -8,11 +8,11 @@ use native.Mathlib.Omega.{arith}
 use lib.ListN.{length, getD, length-append, List·getD-append}
 use lib.Seq.{getD-append-add}
 use lib.Dec.{eqb}
-use Rattle.pixels.specs.declared.PixelLayout.{PixelLayout}
+use Rattle.pixels_layout.specs.declared.PixelLayout.{PixelLayout}
 use Rattle.pixels.specs.Sizes.{pixelLanes, rowBytes}
-use Rattle.pixels.specs.Layout.{placeOf, alphaLane, alphaAt}
+use Rattle.pixels_layout.specs.Layout.{placeOf, alphaLane, alphaAt}
 use Rattle.pixels_alpha.specs.Alpha.{someClear, hasAlpha}
-use Rattle.pixels.proofs.Tabled.{place-lt}
+use Rattle.pixels_layout.proofs.Tabled.{place-lt}
 use Rattle.pixels_alpha.proofs.Flags.{clear-cong}
 use Rattle.job_claim.specs.Rows.{joined}
 

@@ -12,12 +12,12 @@ use lib.Dec.{leb}
 use borrow.Author.Tests.{le-leb}
 use Rattle.arithmetic.specs.Matte.{laneOf, pixelOf, multArgb}
 use Rattle.arithmetic.proofs.Mattes.{lane-byte, pixel-cong}
-use Rattle.pixels.specs.declared.PixelLayout.{PixelLayout}
+use Rattle.pixels_layout.specs.declared.PixelLayout.{PixelLayout}
 use Rattle.pixels.specs.Sizes.{pixelLanes, rowBytes, halfValues, Fits}
-use Rattle.pixels.specs.Layout.{placeOf, laneAt, pixelAt}
-use Rattle.pixels.specs.Lanes.{matted}
+use Rattle.pixels_layout.specs.Layout.{placeOf, laneAt, pixelAt}
+use Rattle.pixels_layout.specs.Lanes.{matted}
 use Rattle.pixels_crop.specs.Crop.{windowOf}
-use Rattle.pixels.proofs.Tabled.{place-lt}
+use Rattle.pixels_layout.proofs.Tabled.{place-lt}
 use Rattle.pixels_crop.proofs.Windows.{window-byte}
 use Rattle.rows.specs.Column.{value}
 use Rattle.rows.specs.Lanes.{rowValue}

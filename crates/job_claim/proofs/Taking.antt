@@ -11,11 +11,11 @@ use Rattle.arithmetic.proofs.Mattes.{pixel-cong}
 use Rattle.arithmetic.specs.Weight.{span}
 use Rattle.arithmetic.specs.Table.{tabulate}
 use Rattle.arithmetic.proofs.Tables.{length-tabulate, getD-tabulate, tabulate-cong}
-use Rattle.pixels.specs.declared.PixelLayout.{PixelLayout}
+use Rattle.pixels_layout.specs.declared.PixelLayout.{PixelLayout}
 use Rattle.pixels.specs.Sizes.{pixelLanes, rowBytes, halfValues, workValues, Fits}
-use Rattle.pixels.specs.Layout.{placeOf, alphaLane, packedByte}
-use Rattle.pixels.specs.Lanes.{restoredPixel, restoredPlace}
-use Rattle.pixels.proofs.Tabled.{place-lt, place-twice}
+use Rattle.pixels_layout.specs.Layout.{placeOf, alphaLane, packedByte}
+use Rattle.pixels_layout.specs.Lanes.{restoredPixel, restoredPlace}
+use Rattle.pixels_layout.proofs.Tabled.{place-lt, place-twice}
 use Rattle.rows_schedule.specs.Schedule.{used, needed}
 use Rattle.rows_schedule.proofs.Needed.{needed-used}
 use Rattle.rows_schedule.proofs.Crop.{rows-most}

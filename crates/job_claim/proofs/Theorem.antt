@@ -14,7 +14,7 @@ use Rattle.arithmetic.proofs.Orders.{le-or-lt}
 use Rattle.arithmetic.specs.Weight.{span}
 use Rattle.pixels.specs.declared.Refusal.the-variants.{RowReady, AllAccepted, NoneReady}
 use Rattle.pixels.specs.Sizes.{pixelLanes, rowBytes, pictureBytes, workValues, sizeOf, Fits}
-use Rattle.pixels.specs.Layout.{placeOf, alphaLane}
+use Rattle.pixels_layout.specs.Layout.{placeOf, alphaLane}
 use Rattle.pixels_alpha.specs.Alpha.{hasAlpha}
 use Rattle.pixels_crop.specs.Crop.{cropped}
 use Rattle.rows_schedule.proofs.Crop.{rows-all, rows-most}

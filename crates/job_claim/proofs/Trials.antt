@@ -7,10 +7,10 @@ use Rattle.arithmetic.specs.Sum.{sum}
 use Rattle.arithmetic.specs.Table.{tabulate}
 use Rattle.arithmetic.specs.Weight.{span, growWeight}
 use Rattle.arithmetic.specs.Matte.{laneOf, matteFactor, restoreFactor, factorOf, scaleColour, orOnto, pixelOf, multArgb}
-use Rattle.pixels.specs.declared.PixelLayout.the-variants.{Rgba8, Argb8, Bgra8}
+use Rattle.pixels_layout.specs.declared.PixelLayout.the-variants.{Rgba8, Argb8, Bgra8}
 use Rattle.pixels.specs.Sizes.{badSide, badSize, sizeNumber, derivedSide, scaledNumber}
-use Rattle.pixels.specs.Layout.{packedByte}
-use Rattle.pixels.specs.Lanes.{restoredPixel, restoredPlace}
+use Rattle.pixels_layout.specs.Layout.{packedByte}
+use Rattle.pixels_layout.specs.Lanes.{restoredPixel, restoredPlace}
 use Rattle.pixels_alpha.specs.Alpha.{someClear, hasAlpha}
 use Rattle.rows_schedule.specs.Schedule.{made, needed, since}
 use Rattle.rows.specs.Column.{start, over, last, columnSum, carry, shrinkValue, growValue, value}

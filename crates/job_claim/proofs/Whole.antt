@@ -17,11 +17,11 @@ use Rattle.arithmetic.proofs.Tables.{length-tabulate, tabulate-cong}
 use Rattle.pixels.specs.declared.Dimensions.{Dimensions}
 use Rattle.pixels.specs.declared.Rect.{Rect}
 use Rattle.pixels.specs.Sizes.{pixelLanes, rowBytes, pictureBytes, halfValues, sizeOf, Fits}
-use Rattle.pixels.specs.Layout.{placeOf}
-use Rattle.pixels.specs.Lanes.{restoredPlace}
+use Rattle.pixels_layout.specs.Layout.{placeOf}
+use Rattle.pixels_layout.specs.Lanes.{restoredPlace}
 use Rattle.pixels_alpha.specs.Alpha.{hasAlpha}
 use Rattle.pixels_crop.specs.Crop.{windowOf, pictureRow, croppedRows, cropped}
-use Rattle.pixels.proofs.Tabled.{place-lt}
+use Rattle.pixels_layout.proofs.Tabled.{place-lt}
 use Rattle.rows_schedule.proofs.Crop.{rows-all}
 use Rattle.rows_schedule.proofs.Needed.{needed-le}
 use Rattle.rows.specs.Column.{value}

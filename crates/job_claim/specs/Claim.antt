@@ -5,7 +5,7 @@ use mathlib.Core.List.{List, []}
 use lib.ListN.{length, getD, take}
 use Rattle.arithmetic.specs.Weight.{span}
 use Rattle.pixels.specs.Sizes.{rowBytes, pictureBytes, workValues, sizeOf}
-use Rattle.pixels.specs.Layout.{placeOf, alphaLane}
+use Rattle.pixels_layout.specs.Layout.{placeOf, alphaLane}
 use Rattle.pixels_alpha.specs.Alpha.{hasAlpha}
 use Rattle.pixels_crop.specs.Crop.{cropped}
 use Rattle.rows.specs.Mean.{exactSum, total, Near, Premise}

@@ -2,10 +2,10 @@
 use lib.Dec.{T as Holds}
 use mir.Val.{Val, hasTy}
 use denote.Enum.Laws as EL
-use Rattle.pixels.specs.declared.PixelLayout.{PixelLayout}
-use Rattle.pixels.specs.declared.PixelLayout.the-variants.{Rgba8, Argb8, Bgra8}
-use Rattle.pixels.proofs.PixelLayout as E
-use Rattle.pixels.proofs.PixelLayout.Laws as E′
+use Rattle.pixels_layout.specs.declared.PixelLayout.{PixelLayout}
+use Rattle.pixels_layout.specs.declared.PixelLayout.the-variants.{Rgba8, Argb8, Bgra8}
+use Rattle.pixels_layout.proofs.PixelLayout as E
+use Rattle.pixels_layout.proofs.PixelLayout.Laws as E′
 
 abbrev pub tag : PixelLayout → Val
 tag l = EL.val E.the-type E′.the-laws l

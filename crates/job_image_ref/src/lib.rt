@@ -4,7 +4,7 @@ use job_resize::resize;
 use pixels::Checked;
 use pixels::Dimensions;
 use pixels::Flagged;
-use pixels::PixelLayout;
+use pixels_layout::PixelLayout;
 use pixels::Rect;
 use pixels_alpha::check_picture;
 use pixels_alpha::picture_has_alpha;

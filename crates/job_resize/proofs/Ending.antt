@@ -19,7 +19,7 @@ use Rattle.arithmetic.proofs.Tables.{tabulate-is, tabulate-cong}
 use Rattle.arithmetic.specs.Quotient.{ceil}
 use Rattle.arithmetic.specs.Sum.{sum}
 use Rattle.pixels.specs.declared.Dimensions.{Dimensions}
-use Rattle.pixels.specs.declared.PixelLayout.{PixelLayout}
+use Rattle.pixels_layout.specs.declared.PixelLayout.{PixelLayout}
 use Rattle.pixels.specs.Sizes.{pixelLanes, rowBytes, halfValues, workValues, pictureBytes, Fits}
 use Rattle.pixels_alpha.specs.Alpha.{hasAlpha}
 use Rattle.rows_schedule.specs.Schedule.{used, made, needed, since}

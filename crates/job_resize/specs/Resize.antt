@@ -7,7 +7,7 @@ use lib.Dec.{eqb, ltb, leb}
 use lib.ListN.{length, getD, drop}
 use Rattle.arithmetic.specs.Table.{tabulate}
 use Rattle.pixels.specs.declared.Dimensions.{Dimensions}
-use Rattle.pixels.specs.declared.PixelLayout.{PixelLayout}
+use Rattle.pixels_layout.specs.declared.PixelLayout.{PixelLayout}
 use Rattle.pixels.specs.declared.Refusal.the-variants.{PixelBufferMismatch, OutputLength, WorkLength}
 use Rattle.pixels.specs.Refusals.{Cause, first, otherLength, fewWork, flagIf, bufferIf}
 use Rattle.pixels.specs.Sizes.{pixelLanes, halfValues, workValues, pictureBytes, sizesCauses}

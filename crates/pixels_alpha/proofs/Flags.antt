@@ -10,7 +10,7 @@ use native.Mathlib.Numerals.{add-one}
 use lib.Dec.{eqb}
 use lib.ListN.{length}
 use borrow.Author.Tests.{eq-eqb, ne-eqb}
-use Rattle.pixels.specs.declared.PixelLayout.{PixelLayout}
+use Rattle.pixels_layout.specs.declared.PixelLayout.{PixelLayout}
 use Rattle.pixels.specs.Sizes.{pixelLanes}
 use Rattle.pixels_alpha.specs.Alpha.{someClear, hasAlpha}
 

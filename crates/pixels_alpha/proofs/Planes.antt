@@ -11,11 +11,11 @@ use lib.Seq.{getD-set-same, getD-set-other}
 use borrow.Author.Tests.{eq-eqb, ne-eqb, eqb-true, eqb-false, lt-ltb, le-ltb, ltb-true, ltb-false}
 use Rattle.arithmetic.specs.Table.{tabulate}
 use Rattle.arithmetic.proofs.Tables.{tabulate-is, getD-tabulate, length-tabulate}
-use Rattle.pixels.specs.declared.PixelLayout.{PixelLayout}
+use Rattle.pixels_layout.specs.declared.PixelLayout.{PixelLayout}
 use Rattle.pixels.specs.Sizes.{pixelLanes}
-use Rattle.pixels.specs.Layout.{placeOf, alphaLane, alphaAt}
+use Rattle.pixels_layout.specs.Layout.{placeOf, alphaLane, alphaAt}
 use Rattle.pixels_alpha.specs.Alpha.{someClear, hasAlpha, alphaByte, withAlpha}
-use Rattle.pixels.proofs.Tabled.{place-lt}
+use Rattle.pixels_layout.proofs.Tabled.{place-lt}
 use Rattle.pixels_alpha.proofs.Flags.{clear-cong}
 
 either : (b : Bool) → (b ≡ true) ⊎ (b ≡ false)

@@ -7,11 +7,11 @@ use lib.ListN.{length, getD}
 use Rattle.arithmetic.specs.Matte.{laneOf}
 use Rattle.arithmetic.specs.Table.{tabulate}
 use Rattle.pixels.specs.declared.Dimensions.{Dimensions}
-use Rattle.pixels.specs.declared.PixelLayout.{PixelLayout}
+use Rattle.pixels_layout.specs.declared.PixelLayout.{PixelLayout}
 use Rattle.pixels.specs.declared.Refusal.the-variants.{PixelBufferMismatch}
 use Rattle.pixels.specs.Refusals.{Cause, first, otherLength, flagIf, bufferIf}
 use Rattle.pixels.specs.Sizes.{pixelLanes, pictureBytes, wrongSize}
-use Rattle.pixels.specs.Layout.{alphaLane, placeOf, alphaAt}
+use Rattle.pixels_layout.specs.Layout.{alphaLane, placeOf, alphaAt}
 
 -- whether some of the alphas a 0, a 1, .. of n pixels isn't 255
 unfoldable pub someClear : (ℕ → ℕ) → ℕ → Bool

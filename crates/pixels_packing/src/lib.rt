@@ -1,7 +1,7 @@
 // Packing and unpacking slices of pixels (document 01, "Lanes"; the Rust: pack_pixels, unpack_pixels, argb_has_alpha).
 use pixels::Checked;
 use pixels::PIXEL_LANES;
-use pixels::PixelLayout;
+use pixels_layout::PixelLayout;
 use pixels::Refusal;
 ghost use mathlib.Core.Path.{_≡_};
 ghost use mathlib.Core.List.{_++_};
@@ -9,7 +9,7 @@ ghost use Prim.Native.Nat.{_+_, _*_, _/_, _≤_};
 ghost use lib.ListN.{length, take, drop};
 ghost use Rattle.pixels.specs.Refusals.{checkedNumber};
 ghost use Rattle.pixels.specs.Sizes.{pixelLanes};
-ghost use Rattle.pixels.specs.Layout.{packedPixels, unpackedPixels, packNumber, packOut, unpackNumber, unpackOut};
+ghost use Rattle.pixels_layout.specs.Layout.{packedPixels, unpackedPixels, packNumber, packOut, unpackNumber, unpackOut};
 ghost use Rattle.pixels_alpha.specs.Alpha.{argbHasAlpha};
 
 // Stores a pixel's bytes from at on.

@@ -3,7 +3,7 @@
 use pixels::Checked;
 use pixels::Dimensions;
 use pixels::Flagged;
-use pixels::PixelLayout;
+use pixels_layout::PixelLayout;
 use pixels::Rect;
 use pixels::Sized;
 

@@ -10,7 +10,7 @@ use libc::STDIN_FILENO;
 use libc::STDOUT_FILENO;
 use pixels::Dimensions;
 use pixels::PIXEL_LANES;
-use pixels::PixelLayout;
+use pixels_layout::PixelLayout;
 use pixels::Rect;
 use pixels::Refusal;
 use pixels::Sized;

@@ -3,12 +3,12 @@ use Prim.Native.Nat.{ℕ, zero, suc, _%_, _/_, _<_}
 use mathlib.Core.Path.{_≡_, sym, ap, fun-ext}
 use mathlib.Core.List.{List}
 use native.Mathlib.Omega.{arith}
-use Rattle.pixels.specs.declared.PixelLayout.{PixelLayout}
+use Rattle.pixels_layout.specs.declared.PixelLayout.{PixelLayout}
 use Rattle.pixels.specs.Sizes.{pixelLanes}
-use Rattle.pixels.specs.Layout.{placesOf}
-use Rattle.pixels.specs.Lanes.{matted}
-use Rattle.pixels.proofs.Matted.{matted-colour, matted-alpha}
-use Rattle.pixels.proofs.Tabled.{place-lt}
+use Rattle.pixels_layout.specs.Layout.{placesOf}
+use Rattle.pixels_layout.specs.Lanes.{matted}
+use Rattle.pixels_layout.proofs.Matted.{matted-colour, matted-alpha}
+use Rattle.pixels_layout.proofs.Tabled.{place-lt}
 use Rattle.rows.specs.Column.{value}
 use Rattle.rows.specs.Lanes.{rowValue}
 use Rattle.rows.specs.Inner.Import.{Bytes, Within, byteAt, mattedAt, laneBytes}

@@ -12,7 +12,7 @@ use lib.Seq.{take-all}
 use borrow.Author.Tests.{le-leb, lt-leb, eq-eqb, ne-eqb, le-ltb, ltb-false}
 use Rattle.arithmetic.proofs.Tables.{length-tabulate}
 use Rattle.pixels.specs.declared.Dimensions.{Dimensions}
-use Rattle.pixels.specs.declared.PixelLayout.{PixelLayout}
+use Rattle.pixels_layout.specs.declared.PixelLayout.{PixelLayout}
 use Rattle.pixels.specs.Sizes.{pixelLanes, rowBytes, halfValues, workValues, badSize}
 use Rattle.pixels.proofs.Truths.{test, same, same-of}
 use Rattle.pixels.proofs.Causes.{first-none, none-applies}

@@ -3,11 +3,11 @@ use Prim.Native.Nat.{ℕ}
 use mathlib.Core.List.{List, [], _∷_}
 use lib.ListN.{length}
 use Rattle.pixels.specs.declared.Dimensions.{Dimensions}
-use Rattle.pixels.specs.declared.PixelLayout.{PixelLayout}
+use Rattle.pixels_layout.specs.declared.PixelLayout.{PixelLayout}
 use Rattle.pixels.specs.declared.Refusal.the-variants.{PixelBufferMismatch}
 use Rattle.pixels.specs.Refusals.{Cause, first, otherLength, fewWork, bufferIf}
 use Rattle.pixels.specs.Sizes.{pixelLanes, rowBytes, workValues, wrongSize}
-use Rattle.pixels.specs.Lanes.{matted}
+use Rattle.pixels_layout.specs.Lanes.{matted}
 use Rattle.rows.specs.Lanes.{rowValue}
 use Rattle.rows.specs.WorkRows.{scaleOf, rowIn}
 

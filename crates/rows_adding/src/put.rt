@@ -3,7 +3,7 @@ use crate::add_halves;
 use pixels::Checked;
 use pixels::Dimensions;
 use pixels::PIXEL_LANES;
-use pixels::PixelLayout;
+use pixels_layout::PixelLayout;
 use pixels::Refusal;
 use pixels::bad_size;
 use rows::import_row;

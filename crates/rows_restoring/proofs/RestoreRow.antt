@@ -5,12 +5,12 @@ use mathlib.Core.Bool.{Bool, true, false}
 use mathlib.Core.List.{List}
 use lib.ListN.{length, getD}
 use Rattle.arithmetic.specs.Table.{tabulate}
-use Rattle.pixels.specs.declared.PixelLayout.{PixelLayout}
-use Rattle.pixels.specs.declared.PixelLayout.the-variants.{Bgra8}
+use Rattle.pixels_layout.specs.declared.PixelLayout.{PixelLayout}
+use Rattle.pixels_layout.specs.declared.PixelLayout.the-variants.{Bgra8}
 use Rattle.pixels.specs.declared.Refusal.{Refusal}
 use Rattle.pixels.specs.Refusals.{number}
 use Rattle.pixels.specs.Sizes.{pixelLanes, badSide, rowBytes}
-use Rattle.pixels.specs.Lanes.{restoredPlace}
+use Rattle.pixels_layout.specs.Lanes.{restoredPlace}
 use Rattle.pixels.proofs.Truths.{same, same-of}
 use Rattle.pixels.proofs.Causes.{first-none, none-applies}
 use Rattle.pixels.proofs.Numbers.{flagged-refused, buffer-refused}

@@ -15,14 +15,14 @@ use Rattle.arithmetic.specs.Matte.{laneOf, pixelOf, multArgb}
 use Rattle.arithmetic.specs.Table.{tabulate}
 use Rattle.arithmetic.proofs.Tables.{getD-tabulate, tabulate-cong, tabulate-is}
 use Rattle.arithmetic.proofs.Mattes.{argb-opaque, pixel-lane}
-use Rattle.pixels.specs.declared.PixelLayout.{PixelLayout}
-use Rattle.pixels.specs.declared.PixelLayout.the-variants.{Rgba8, Argb8, Bgra8}
+use Rattle.pixels_layout.specs.declared.PixelLayout.{PixelLayout}
+use Rattle.pixels_layout.specs.declared.PixelLayout.the-variants.{Rgba8, Argb8, Bgra8}
 use Rattle.pixels.specs.Sizes.{pixelLanes, rowBytes}
-use Rattle.pixels.specs.Layout.{alphaLane, placeOf, alphaAt, packedByte}
-use Rattle.pixels.specs.Lanes.{restoredPixel, restoredPlace}
+use Rattle.pixels_layout.specs.Layout.{alphaLane, placeOf, alphaAt, packedByte}
+use Rattle.pixels_layout.specs.Lanes.{restoredPixel, restoredPlace}
 use Rattle.pixels_alpha.specs.Alpha.{someClear, hasAlpha}
-use Rattle.pixels.proofs.Tabled.{each-lane, place-lt, place-twice}
-use Rattle.pixels.proofs.Packing.{packed-byte}
+use Rattle.pixels_layout.proofs.Tabled.{each-lane, place-lt, place-twice}
+use Rattle.pixels_layout.proofs.Packing.{packed-byte}
 use Rattle.pixels_alpha.proofs.Flags.{clear-none, clear-cong}
 use Rattle.rows_restoring.specs.Inner.Restoring.{wordAt, restoredAt, putLanes, orderedByte, clearAfter}
 use Rattle.arithmetic.proofs.Stores.{Stored, none-stored, store, keep, place, ahead}

@@ -5,11 +5,11 @@ use mathlib.Core.Bool.{Bool}
 use mathlib.Core.List.{List, [], _∷_}
 use lib.ListN.{length, getD}
 use Rattle.arithmetic.specs.Table.{tabulate}
-use Rattle.pixels.specs.declared.PixelLayout.{PixelLayout}
+use Rattle.pixels_layout.specs.declared.PixelLayout.{PixelLayout}
 use Rattle.pixels.specs.declared.Refusal.the-variants.{InvalidDimensions, OutputLength}
 use Rattle.pixels.specs.Refusals.{Cause, cause, first, otherLength, flagIf, bufferIf}
 use Rattle.pixels.specs.Sizes.{pixelLanes, rowBytes, badSide}
-use Rattle.pixels.specs.Lanes.{restoredPlace}
+use Rattle.pixels_layout.specs.Lanes.{restoredPlace}
 use Rattle.pixels_alpha.specs.Alpha.{hasAlpha}
 
 -- 1, then 4

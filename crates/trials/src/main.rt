@@ -7,7 +7,7 @@ use job::Started;
 use job::Taken;
 use pixels::Dimensions;
 use pixels::PIXEL_LANES;
-use pixels::PixelLayout;
+use pixels_layout::PixelLayout;
 use pixels::Rect;
 use pixels::Sized;
 ghost use Prim.Native.Nat.{_≤_};

@@ -1,8 +1,8 @@
 -- The invariant: no pixel passed has an alpha other than 255. Assumes nothing.
 use Rattle.pixels_alpha.proofs.Flags.{clear-at, clear-none, clear-next}
-use Rattle.pixels.proofs.Tabled.{place-lt}
+use Rattle.pixels_layout.proofs.Tabled.{place-lt}
 use Rattle.pixels_alpha.specs.Alpha.{hasAlpha}
-use Rattle.pixels.specs.Layout.{alphaLane}
+use Rattle.pixels_layout.specs.Layout.{alphaLane}
 use borrow.Author.Needs.{needs}
 use Rattle.pixels_alpha.specs.Alpha.{someClear}
 use Rattle.pixels.specs.Sizes.{pixelLanes}

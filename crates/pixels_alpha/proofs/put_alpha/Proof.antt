@@ -1,8 +1,8 @@
 -- The invariant, byte by byte: the pixels passed have the plane's alpha, all else stays. Assumes nothing.
 use Rattle.pixels_alpha.proofs.Planes.{partly, partly-first, partly-turn, partly-done}
-use Rattle.pixels.proofs.Tabled.{place-lt}
+use Rattle.pixels_layout.proofs.Tabled.{place-lt}
 use Rattle.pixels_alpha.specs.Alpha.{withAlpha}
-use Rattle.pixels.specs.Layout.{alphaLane}
+use Rattle.pixels_layout.specs.Layout.{alphaLane}
 use Rattle.pixels.specs.Sizes.{pixelLanes}
 use borrow.Author.Needs.{needs}
 use Rattle.pixels_alpha.proofs.Planes.{partly}

@@ -6,7 +6,7 @@ use native.Mathlib.Omega.{arith}
 use Prim.Native.Nat.{_≤_, _<_, _-_, _^_}
 use mathlib.Core.Path.{_≡_, sym, _∙_}
 use Rattle.pixels_alpha.specs.Alpha.{someClear}
-use Rattle.pixels.specs.Layout.{alphaLane}
+use Rattle.pixels_layout.specs.Layout.{alphaLane}
 use Rattle.arithmetic.specs.Matte.{laneOf}
 use lib.ListN.{length, getD}
 use mathlib.Core.Bool.{false}

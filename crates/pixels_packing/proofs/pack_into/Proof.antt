@@ -1,11 +1,11 @@
 -- The invariant: the bytes of the pixels passed, then the buffer as it was. Assumes nothing.
 use Rattle.arithmetic.proofs.Stretches.{none-filled, all-filled}
-use Rattle.pixels.proofs.Packing.{packed-turn, packed-length}
-use Rattle.pixels.specs.Layout.{packedPixels}
+use Rattle.pixels_layout.proofs.Packing.{packed-turn, packed-length}
+use Rattle.pixels_layout.specs.Layout.{packedPixels}
 use native.Mathlib.Omega.{arith}
 use mathlib.Core.List.{_++_}
 use mathlib.Core.Path.{_≡_, refl, ap, _∙_}
-use Rattle.pixels.specs.Layout.{packedByte}
+use Rattle.pixels_layout.specs.Layout.{packedByte}
 use Rattle.pixels.specs.Sizes.{pixelLanes}
 use Rattle.arithmetic.specs.Table.{tabulate}
 use lib.ListN.{length, getD, drop}

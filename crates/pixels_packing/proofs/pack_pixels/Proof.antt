@@ -1,8 +1,8 @@
 -- A length other than the lanes times the pixels is told before anything is written. Assumes nothing.
-use Rattle.pixels.proofs.Packing.{pack-refused, pack-passes}
+use Rattle.pixels_layout.proofs.Packing.{pack-refused, pack-passes}
 use Rattle.pixels.proofs.Numbers.{buffer-refused, buffer-written}
 use Rattle.pixels.specs.declared.Refusal.the-variants.{OutputLength}
-use Rattle.pixels.specs.Layout.{packOut}
+use Rattle.pixels_layout.specs.Layout.{packOut}
 use lib.ListN.{length}
 use native.Mathlib.Omega.{arith}
 use borrow.Author.Needs.{needs}

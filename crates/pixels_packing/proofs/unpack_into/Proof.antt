@@ -1,14 +1,14 @@
 -- The invariant: the pixels passed, then the buffer as it was. Assumes nothing.
 use Prim.Native.Nat.{_≤_, _<_, _-_, _/_}
 use Rattle.arithmetic.proofs.Stretches.{none-filled, all-filled}
-use Rattle.pixels.proofs.Packing.{unpacked-at}
-use Rattle.pixels.specs.Layout.{unpackedPixels}
+use Rattle.pixels_layout.proofs.Packing.{unpacked-at}
+use Rattle.pixels_layout.specs.Layout.{unpackedPixels}
 use Rattle.arithmetic.proofs.Tables.{set-tabulate}
 use lib.ListN.{length-set}
 use native.Mathlib.Numerals.{add-one}
 use native.Mathlib.Omega.{arith}
 use mathlib.Core.Path.{_≡_, refl, _∙_}
-use Rattle.pixels.specs.Layout.{pixelAt}
+use Rattle.pixels_layout.specs.Layout.{pixelAt}
 use Rattle.arithmetic.specs.Table.{tabulate}
 use lib.ListN.{length, drop}
 use mathlib.Core.List.{_++_}

@@ -1,8 +1,8 @@
 -- A length other than that of the whole pixels is told before anything is written. Assumes nothing.
-use Rattle.pixels.proofs.Packing.{unpack-refused, unpack-passes}
+use Rattle.pixels_layout.proofs.Packing.{unpack-refused, unpack-passes}
 use Rattle.pixels.proofs.Numbers.{buffer-refused, buffer-written}
 use Rattle.pixels.specs.declared.Refusal.the-variants.{OutputLength}
-use Rattle.pixels.specs.Layout.{unpackOut}
+use Rattle.pixels_layout.specs.Layout.{unpackOut}
 use lib.ListN.{length}
 use borrow.Author.Needs.{needs}
 use Rattle.pixels_packing.proofs.unpack_pixels.Statement.{statement}

@@ -3,7 +3,7 @@ use Prim.Native.Nat.{ℕ}
 use native.Mathlib.Omega.{arith}
 use lib.ListN.{length-replicate}
 use borrow.Author.Needs.{needs}
-use Rattle.pixels.specs.declared.PixelLayout.the-variants.{Rgba8}
+use Rattle.pixels_layout.specs.declared.PixelLayout.the-variants.{Rgba8}
 use Rattle.job.specs.Record.{planOf}
 use Rattle.preview.proofs.Buffers.{rows-fit}
 use Rattle.preview.proofs.scale.Statement.{statement}

@@ -8,7 +8,7 @@ use Rattle.arithmetic.specs.Word.{wrapSub, wrapMul}
 use Rattle.arithmetic.specs.FixedPoint.{MULT}
 use Rattle.arithmetic.specs.Matte.{scaleColour, matteFactor}
 use Rattle.arithmetic.specs.Sum.{sum}
-use Rattle.pixels.specs.declared.Places.{Places}
+use Rattle.pixels_layout.specs.declared.Places.{Places}
 use Rattle.pixels.specs.Sizes.{pixelLanes, maxSide, halfValues}
 use Rattle.rows.specs.Lanes.{rowValue}
 use Rattle.rows.specs.WorkRows.{written}

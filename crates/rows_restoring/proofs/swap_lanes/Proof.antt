@@ -1,6 +1,6 @@
 -- `swap_lanes` meets its contract: each turn exchanges blue and red of the next pixel and keeps green and alpha. Assumes nothing.
 use Rattle.rows_restoring.proofs.RestoredPixels.{Ordered, order-first, swap-turn}
-use Rattle.pixels.specs.declared.PixelLayout.the-variants.{Rgba8}
+use Rattle.pixels_layout.specs.declared.PixelLayout.the-variants.{Rgba8}
 use Rattle.arithmetic.proofs.Stores.{same, filled}
 use lib.ListN.{length-set}
 use Prim.Native.Nat.{_-_, _≤_}

@@ -4,10 +4,10 @@ use mathlib.Core.Bool.{Bool, true}
 use mathlib.Core.List.{List}
 use lib.ListN.{getD, set}
 use Rattle.arithmetic.specs.Matte.{laneOf, pixelOf, multArgb}
-use Rattle.pixels.specs.declared.PixelLayout.{PixelLayout}
+use Rattle.pixels_layout.specs.declared.PixelLayout.{PixelLayout}
 use Rattle.pixels.specs.Sizes.{pixelLanes}
-use Rattle.pixels.specs.Layout.{alphaLane, placeOf}
-use Rattle.pixels.specs.Lanes.{restoredPixel}
+use Rattle.pixels_layout.specs.Layout.{alphaLane, placeOf}
+use Rattle.pixels_layout.specs.Lanes.{restoredPixel}
 use Rattle.pixels_alpha.specs.Alpha.{someClear}
 
 -- the pixel AARRGGBB of the lanes from place x on

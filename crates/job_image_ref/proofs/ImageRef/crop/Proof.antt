@@ -48,8 +48,8 @@ use Rattle.pixels_crop.specs.Crop.{cropNumber, cropFlag, cropOut}
 use Rattle.pixels.specs.declared.Flagged.{Flagged}
 use Rattle.pixels.specs.declared.Rect.{Rect}
 use Rattle.pixels.specs.declared.Dimensions.{Dimensions}
-use Rattle.pixels.specs.declared.PixelLayout.{PixelLayout}
-use Rattle.pixels.proofs.PixelLayout as E
+use Rattle.pixels_layout.specs.declared.PixelLayout.{PixelLayout}
+use Rattle.pixels_layout.proofs.PixelLayout as E
 use Rattle.pixels.proofs.Dimensions as S
 use Rattle.pixels.proofs.Dimensions.Laws as S′
 use Rattle.pixels.proofs.Rect as R

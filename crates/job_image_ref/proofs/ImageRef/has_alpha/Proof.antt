@@ -48,7 +48,7 @@ use Rattle.job_image_ref.specs.declared.ImageRef.{ImageRef}
 use Rattle.job_image_ref.proofs.Clauses.{says-two}
 use Rattle.job_image_ref.proofs.Tag.{tag, of-its-type}
 use Rattle.job_image_ref.proofs.ImageRef as T
-use Rattle.pixels.proofs.PixelLayout as E
+use Rattle.pixels_layout.proofs.PixelLayout as E
 use Rattle.pixels.proofs.Dimensions as S
 use Rattle.pixels.proofs.Dimensions.Laws as S′
 use Rattle.pixels.proofs.Flagged as F

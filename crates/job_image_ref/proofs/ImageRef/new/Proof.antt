@@ -49,10 +49,10 @@ use Rattle.pixels.specs.Refusals.{checkedNumber}
 use Rattle.pixels_alpha.specs.Alpha.{pictureNumber}
 use Rattle.pixels.specs.declared.Checked.{Checked}
 use Rattle.pixels.specs.declared.Dimensions.{Dimensions}
-use Rattle.pixels.specs.declared.PixelLayout.{PixelLayout}
-use Rattle.pixels.specs.declared.PixelLayout.the-variants.{Rgba8, Argb8, Bgra8}
-use Rattle.pixels.proofs.PixelLayout as E
-use Rattle.pixels.proofs.PixelLayout.Laws as E′
+use Rattle.pixels_layout.specs.declared.PixelLayout.{PixelLayout}
+use Rattle.pixels_layout.specs.declared.PixelLayout.the-variants.{Rgba8, Argb8, Bgra8}
+use Rattle.pixels_layout.proofs.PixelLayout as E
+use Rattle.pixels_layout.proofs.PixelLayout.Laws as E′
 use Rattle.pixels.proofs.Dimensions as S
 use Rattle.pixels.proofs.Dimensions.Laws as S′
 use Rattle.pixels.proofs.Checked as C

@@ -47,8 +47,8 @@ use Rattle.pixels.specs.Refusals.{flaggedNumber, flaggedFlag}
 use Rattle.job_resize.specs.Resize.{resizeNumber, resizeFlag, resizeOut, resizeWork}
 use Rattle.pixels.specs.declared.Flagged.{Flagged}
 use Rattle.pixels.specs.declared.Dimensions.{Dimensions}
-use Rattle.pixels.specs.declared.PixelLayout.{PixelLayout}
-use Rattle.pixels.proofs.PixelLayout as E
+use Rattle.pixels_layout.specs.declared.PixelLayout.{PixelLayout}
+use Rattle.pixels_layout.proofs.PixelLayout as E
 use Rattle.pixels.proofs.Dimensions as S
 use Rattle.pixels.proofs.Dimensions.Laws as S′
 use Rattle.pixels.proofs.Flagged as F

@@ -4,7 +4,7 @@ use mathlib.Core.Path.{_≡_, sym, ap, _∙_}
 use mathlib.Core.List.{List}
 use native.Mathlib.Omega.{arith}
 use native.Mathlib.Numerals.{add-one}
-use Rattle.pixels.specs.declared.Places.{Places}
+use Rattle.pixels_layout.specs.declared.Places.{Places}
 use Rattle.rows.specs.declared.import.Quad.{Quad}
 use Rattle.rows.specs.Inner.Import.{at, Four, laneBytes, PixelAsks, AdvanceAsks, Advances}
 use Rattle.rows.proofs.Lanes.{each, lane-byte}

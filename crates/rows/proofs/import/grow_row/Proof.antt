@@ -8,7 +8,7 @@ use lib.ListN.{length}
 use Rattle.arithmetic.specs.Word.{wrapAdd, wrapMul}
 use Rattle.arithmetic.specs.Table.{tabulate}
 use Rattle.pixels.specs.Sizes.{pixelLanes}
-use Rattle.pixels.specs.declared.Places.{Places}
+use Rattle.pixels_layout.specs.declared.Places.{Places}
 use Rattle.rows.specs.declared.import.Quad.{Quad}
 use Rattle.rows.specs.Column.{value}
 use Rattle.rows.specs.WorkRows.{written}

@@ -5,10 +5,10 @@ use mathlib.Core.List.{List}
 use native.Mathlib.Omega.{arith}
 use borrow.Author.Needs.{needs}
 use lib.ListN.{length}
-use Rattle.pixels.specs.declared.PixelLayout.{PixelLayout}
-use Rattle.pixels.specs.declared.Places.{Places}
+use Rattle.pixels_layout.specs.declared.PixelLayout.{PixelLayout}
+use Rattle.pixels_layout.specs.declared.Places.{Places}
 use Rattle.pixels.specs.Sizes.{pixelLanes, halfValues}
-use Rattle.pixels.specs.Layout.{placesOf}
+use Rattle.pixels_layout.specs.Layout.{placesOf}
 use Rattle.pixels.proofs.Numbers.{buffer-refused, buffer-written}
 use Rattle.rows.specs.WorkRows.{written}
 use Rattle.rows.specs.Import.{importNumber, imported, importHalf}

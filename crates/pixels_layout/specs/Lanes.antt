@@ -4,9 +4,9 @@ use Prim.Native.Nat.{ℕ, _+_, _*_}
 use mathlib.Core.Bool.{true, false}
 use mathlib.Core.List.{List}
 use Rattle.arithmetic.specs.Matte.{laneOf, pixelOf, multArgb}
-use Rattle.pixels.specs.declared.PixelLayout.{PixelLayout}
+use Rattle.pixels_layout.specs.declared.PixelLayout.{PixelLayout}
 use Rattle.pixels.specs.Sizes.{pixelLanes}
-use Rattle.pixels.specs.Layout.{pixelAt, packedByte}
+use Rattle.pixels_layout.specs.Layout.{pixelAt, packedByte}
 
 -- "The matted bytes": lane k of pixel i of the row s after mult_argb (matte)
 unfoldable pub matted : PixelLayout → List ℕ → ℕ → ℕ → ℕ

@@ -1,9 +1,9 @@
 -- An entry of the table of tables: its row and its column lie within. Assumes nothing.
-use Rattle.pixels.proofs.Tabled.{row-lt, place-lt}
+use Rattle.pixels_layout.proofs.Tabled.{row-lt, place-lt}
 use native.Mathlib.Omega.{arith}
 use borrow.Author.Needs.{needs}
-use Rattle.pixels.proofs.layout.place.Statement.{statement}
-use Rattle.pixels.proofs.layout.place.Tie as tie
+use Rattle.pixels_layout.proofs.place.Statement.{statement}
+use Rattle.pixels_layout.proofs.place.Tie as tie
 
 row-requires : tie.Need-row-requires
 row-requires c κs = search needs

@@ -9,11 +9,11 @@ use native.Mathlib.Nat.{le-of-suc-le-suc, eq-or-lt-of-le, le-refl}
 use lib.ListN.{getD}
 use Rattle.arithmetic.specs.Matte.{laneOf, scaleColour, matteFactor}
 use Rattle.arithmetic.proofs.Mattes.{lane-byte, matte-colour, matte-alpha, matte-within}
-use Rattle.pixels.specs.declared.PixelLayout.{PixelLayout}
+use Rattle.pixels_layout.specs.declared.PixelLayout.{PixelLayout}
 use Rattle.pixels.specs.Sizes.{pixelLanes}
-use Rattle.pixels.specs.Layout.{placeOf, alphaLane, laneAt, alphaAt, pixelAt}
-use Rattle.pixels.specs.Lanes.{matted, restoredPixel, restoredPlace}
-use Rattle.pixels.proofs.Packing.{pixelAt-lane, packed-byte}
+use Rattle.pixels_layout.specs.Layout.{placeOf, alphaLane, laneAt, alphaAt, pixelAt}
+use Rattle.pixels_layout.specs.Lanes.{matted, restoredPixel, restoredPlace}
+use Rattle.pixels_layout.proofs.Packing.{pixelAt-lane, packed-byte}
 
 pub matted-byte : (l : PixelLayout) (s : List ℕ) (k i : ℕ) → matted l s k i ≤ 255
 unfolding matted

@@ -1,11 +1,24 @@
 // Layouts (document 01, "Lanes"; the Rust: PixelLayout).
-use crate::PixelLayout;
-use crate::Places;
 ghost use mathlib.Core.Path.{_≡_};
 ghost use Prim.Native.Nat.{_+_, _*_, _^_, _<_};
 ghost use Rattle.arithmetic.specs.Matte.{laneOf};
 ghost use Rattle.pixels.specs.Sizes.{pixelLanes};
-ghost use Rattle.pixels.specs.Layout.{rowOf, placeOf, placesOf, alphaLane, packed, unpacked};
+ghost use Rattle.pixels_layout.specs.Layout.{rowOf, placeOf, placesOf, alphaLane, packed, unpacked};
+
+// The order of a pixel's bytes.
+pub enum PixelLayout {
+    Rgba8,
+    Argb8,
+    Bgra8,
+}
+
+// Where a layout has the scaler's lanes: byte offsets within a pixel.
+pub struct Places {
+    pub b: usize,
+    pub g: usize,
+    pub r: usize,
+    pub a: usize,
+}
 
 // A row for each layout, in the order of PixelLayout: the place of the lanes B, G, R, A among a pixel's bytes. Each row is its own inverse, so it
 // also says which lane stands at each place.

@@ -3,11 +3,11 @@ use Prim.Native.Nat.{ℕ, zero, suc, _<_}
 use mathlib.Core.Path.{_≡_, refl}
 use native.Mathlib.Omega.{arith}
 use lib.Dec.{lit<}
-use Rattle.pixels.specs.declared.PixelLayout.{PixelLayout}
-use Rattle.pixels.specs.declared.PixelLayout.the-variants.{Rgba8, Argb8, Bgra8}
-use Rattle.pixels.specs.declared.Places.{Places}
+use Rattle.pixels_layout.specs.declared.PixelLayout.{PixelLayout}
+use Rattle.pixels_layout.specs.declared.PixelLayout.the-variants.{Rgba8, Argb8, Bgra8}
+use Rattle.pixels_layout.specs.declared.Places.{Places}
 use Rattle.pixels.specs.Sizes.{pixelLanes}
-use Rattle.pixels.specs.Layout.{rowOf, placeOf, placesOf}
+use Rattle.pixels_layout.specs.Layout.{rowOf, placeOf, placesOf}
 
 -- what holds of each lane holds of every lane
 pub each-lane : (P : ℕ → Type 0) → P 0 → P 1 → P 2 → P 3 → (k : ℕ) → k < pixelLanes → P k

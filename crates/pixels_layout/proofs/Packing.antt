@@ -10,16 +10,16 @@ use Rattle.arithmetic.specs.Matte.{laneOf, pixelOf}
 use Rattle.arithmetic.proofs.Mattes.{lanes-make, pixel-lane, pixel-cong}
 use Rattle.arithmetic.specs.Table.{tabulate}
 use Rattle.arithmetic.proofs.Tables.{length-tabulate, getD-tabulate, tabulate-cong, tabulate-is}
-use Rattle.pixels.specs.declared.PixelLayout.{PixelLayout}
-use Rattle.pixels.specs.declared.PixelLayout.the-variants.{Rgba8, Argb8, Bgra8}
+use Rattle.pixels_layout.specs.declared.PixelLayout.{PixelLayout}
+use Rattle.pixels_layout.specs.declared.PixelLayout.the-variants.{Rgba8, Argb8, Bgra8}
 use Rattle.pixels.specs.declared.Refusal.the-variants.{OutputLength}
 use Rattle.pixels.specs.Refusals.{number, otherLength}
 use Rattle.pixels.specs.Sizes.{pixelLanes}
-use Rattle.pixels.specs.Layout.{placeOf, laneAt, pixelAt, unpacked, packed, unpackedPixels, packedByte, packedPixels, packNumber, unpackNumber}
+use Rattle.pixels_layout.specs.Layout.{placeOf, laneAt, pixelAt, unpacked, packed, unpackedPixels, packedByte, packedPixels, packNumber, unpackNumber}
 use Rattle.pixels.proofs.Truths.{differ, same}
 use Rattle.pixels.proofs.Causes.{first-at, first-none}
 use Rattle.arithmetic.proofs.Stretches.{stretch, tabulate-add}
-use Rattle.pixels.proofs.Tabled.{place-lt, place-twice}
+use Rattle.pixels_layout.proofs.Tabled.{place-lt, place-twice}
 
 -- what four bytes unpack to, the lanes read where the table says
 pub unpack-from : (l : PixelLayout) (s : List ℕ) (b g r a : ℕ) {n : ℕ} → b ≡ placeOf l 0 → g ≡ placeOf l 1 → r ≡ placeOf l 2 → a ≡ placeOf l 3 → n ≡ getD s b 0 + 2 ^ 8 * getD s g 0 + 2 ^ 16 * getD s r 0 + 2 ^ 24 * getD s a 0 → n ≡ unpacked l s

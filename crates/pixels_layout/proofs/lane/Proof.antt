@@ -3,8 +3,8 @@ use Rattle.arithmetic.specs.Matte.{laneOf}
 use native.Mathlib.Omega.{arith}
 use mathlib.Core.Path.{_≡_}
 use borrow.Author.Needs.{needs}
-use Rattle.pixels.proofs.layout.lane.Statement.{statement}
-use Rattle.pixels.proofs.layout.lane.Tie as tie
+use Rattle.pixels_layout.proofs.lane.Statement.{statement}
+use Rattle.pixels_layout.proofs.lane.Tie as tie
 
 cast-result : tie.Need-cast-result
 cast-result c = search needs

@@ -1,9 +1,9 @@
 -- The four places, read off the table. Assumes nothing.
-use Rattle.pixels.proofs.Tabled.{places-from}
+use Rattle.pixels_layout.proofs.Tabled.{places-from}
 -- The four places, read off the table. Assumes nothing.
 use borrow.Author.Needs.{needs}
-use Rattle.pixels.proofs.PixelLayout.places.Statement.{statement}
-use Rattle.pixels.proofs.PixelLayout.places.Tie as tie
+use Rattle.pixels_layout.proofs.PixelLayout.places.Statement.{statement}
+use Rattle.pixels_layout.proofs.PixelLayout.places.Tie as tie
 
 place-requires : tie.Need-place-requires
 place-requires c κs = search needs

@@ -5,12 +5,12 @@ use mathlib.Core.List.{List, [], _∷_}
 use lib.ListN.{length, getD}
 use Rattle.arithmetic.specs.Matte.{laneOf, pixelOf}
 use Rattle.arithmetic.specs.Table.{tabulate}
-use Rattle.pixels.specs.declared.PixelLayout.{PixelLayout}
-use Rattle.pixels.specs.declared.PixelLayout.the-variants.{Rgba8, Argb8, Bgra8}
-use Rattle.pixels.specs.declared.Places.{Places}
+use Rattle.pixels_layout.specs.declared.PixelLayout.{PixelLayout}
+use Rattle.pixels_layout.specs.declared.PixelLayout.the-variants.{Rgba8, Argb8, Bgra8}
+use Rattle.pixels_layout.specs.declared.Places.{Places}
 use Rattle.pixels.specs.declared.Refusal.the-variants.{OutputLength}
 use Rattle.pixels.specs.Refusals.{first, otherLength, bufferIf}
 use Rattle.pixels.specs.Sizes.{pixelLanes}
 
 -- the table's rows: Rgba8, Argb8, Bgra8
 abbrev pub rowOf : PixelLayout → ℕ

@@ -1,8 +1,8 @@
 -- The four lanes, read where the table says. Assumes nothing.
-use Rattle.pixels.proofs.Packing.{unpack-from}
+use Rattle.pixels_layout.proofs.Packing.{unpack-from}
 use borrow.Author.Needs.{needs}
-use Rattle.pixels.proofs.PixelLayout.unpack.Statement.{statement}
-use Rattle.pixels.proofs.PixelLayout.unpack.Tie as tie
+use Rattle.pixels_layout.proofs.PixelLayout.unpack.Statement.{statement}
+use Rattle.pixels_layout.proofs.PixelLayout.unpack.Tie as tie
 
 place-requires : tie.Need-place-requires
 place-requires c κs = search needs

@@ -1,9 +1,9 @@
 -- Each byte is the lane that the table has at its place. Assumes nothing.
-use Rattle.pixels.proofs.Packing.{pack-from}
+use Rattle.pixels_layout.proofs.Packing.{pack-from}
 -- Each byte is the lane that the table has at its place. Assumes nothing.
 use borrow.Author.Needs.{needs}
-use Rattle.pixels.proofs.PixelLayout.pack.Statement.{statement}
-use Rattle.pixels.proofs.PixelLayout.pack.Tie as tie
+use Rattle.pixels_layout.proofs.PixelLayout.pack.Statement.{statement}
+use Rattle.pixels_layout.proofs.PixelLayout.pack.Tie as tie
 
 place-requires : tie.Need-place-requires
 place-requires c κs = search needs
