@@ -3,8 +3,8 @@
 use job::Job;
 use job::Plan;
 use pixels::Dimensions;
-use pixels_layout::PixelLayout;
 use pixels::Rect;
+use pixels_layout::PixelLayout;
 ghost use mathlib.Core.Path.{_≡_};
 ghost use Prim.Native.Nat.{_≤_};
 ghost use lib.ListN.{length};

@@ -1,8 +1,8 @@
 // Packing and unpacking slices of pixels (document 01, "Lanes"; the Rust: pack_pixels, unpack_pixels, argb_has_alpha).
 use pixels::Checked;
 use pixels::PIXEL_LANES;
-use pixels_layout::PixelLayout;
 use pixels::Refusal;
+use pixels_layout::PixelLayout;
 ghost use mathlib.Core.Path.{_≡_};
 ghost use mathlib.Core.List.{_++_};
 ghost use Prim.Native.Nat.{_+_, _*_, _/_, _≤_};

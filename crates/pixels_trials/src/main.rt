@@ -3,9 +3,9 @@
 use pixels::Checked;
 use pixels::Dimensions;
 use pixels::Flagged;
-use pixels_layout::PixelLayout;
 use pixels::Rect;
 use pixels::Sized;
+use pixels_layout::PixelLayout;
 
 fn main() {
     sizes();

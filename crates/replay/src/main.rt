@@ -8,12 +8,12 @@ use libc::STDOUT_FILENO;
 use pixels::Dimensions;
 use pixels::Flagged;
 use pixels::PIXEL_LANES;
-use pixels_layout::PixelLayout;
 use pixels::Rect;
 use pixels::Refusal;
 use pixels::Sized;
 use pixels_alpha::apply_alpha_plane;
 use pixels_crop::crop;
+use pixels_layout::PixelLayout;
 
 mod picture;
 mod text;

@@ -7,9 +7,9 @@ use job::Started;
 use job::Taken;
 use pixels::Dimensions;
 use pixels::PIXEL_LANES;
-use pixels_layout::PixelLayout;
 use pixels::Rect;
 use pixels::Sized;
+use pixels_layout::PixelLayout;
 ghost use Prim.Native.Nat.{_≤_};
 
 fn main() {
