@@ -83,10 +83,6 @@ pub size-passes : (d : Dimensions) → badSize d ≡ false → sizeNumber d ≡ 
 unfolding sizeNumber
 size-passes d e = first-none (wrongSize d ∷ []) (e, tt)
 
-pub size-sides : (d : Dimensions) → sizeNumber d ≡ 0 → badSize d ≡ false
-unfolding sizeNumber
-size-sides d e = none-applies (wrongSize d ∷ []) e .0
-
 -- ---- the numbers of source, crop and target
 module _ (source : Dimensions) (crop : Rect) (target : Dimensions) where
   -- what number 1 looks at
