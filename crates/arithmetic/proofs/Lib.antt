@@ -7,3 +7,5 @@ pub mod Tables
 pub mod Weights
 pub mod FixedPoints
 pub mod Mattes
+pub mod Stretches
+pub mod Stores

@@ -1,16 +1,12 @@
--- What the words of the boundary stand for, and what an answer stored in lent words comes to. Assumes nothing.
-use Prim.Native.Nat.{ℕ, zero, suc, _≤_, _<_}
+-- The boundary's number, tested first, and what an answer stored in lent words comes to. A refusal's number is not 0, so it keeps every buffer. Assumes nothing.
+use Prim.Native.Nat.{ℕ, _≤_}
 use mathlib.Core.Path.{_≡_, refl, sym, _∙_}
-use mathlib.Core.Bool.{Bool, true, false, cond, not, _||_, true≢false}
-use mathlib.Core.List.{List, [], _∷_, _++_}
-use native.Mathlib.Nat.{zero-add}
+use mathlib.Core.Bool.{Bool, true, false, cond}
+use mathlib.Core.List.{List, [], _∷_}
 use native.Mathlib.Omega.{arith}
-use lib.Dec.{eqb, ltb}
-use lib.ListN.{length, getD, set, take, drop}
-use lib.Seq.{paste-suc}
-use borrow.Author.Tests.{le-ltb, ltb-false, ne-eqb}
+use lib.Dec.{eqb}
+use borrow.Author.Tests.{le-ltb, ne-eqb}
 use Rattle.pixels.specs.declared.Dimensions.{Dimensions}
-use Rattle.pixels.specs.declared.PixelLayout.the-variants.{Rgba8}
 use Rattle.pixels.specs.declared.Refusal.{Refusal}
 use Rattle.pixels.specs.declared.Flagged.{Flagged}
 use Rattle.pixels.specs.declared.Flagged.the-variants as flagged
@@ -18,71 +14,77 @@ use Rattle.pixels.specs.declared.Sized.{Sized}
 use Rattle.pixels.specs.declared.Sized.the-variants as sized
 use Rattle.pixels.specs.Refusals.{number, bufferIf, flagIf, sizeIf, flaggedNumber, flaggedFlag, sizedNumber, sizedSize}
 use Rattle.pixels.proofs.Numbers.{number-pos}
-use Rattle.capi.specs.Boundary.{boundary, boundaryFirst, wordLayout, isLayout, flagWord, stored, storedFlag, storedSize, misused}
+use Rattle.capi_words.specs.Words.{flagWord, stored}
+use Rattle.capi.specs.Boundary.{boundary, boundaryFirst, misused, storedFlag, storedSize}
 
--- every word but 1 and 2 stands for the first layout
-pub first-layout : (word : ℕ) → (word ≡ 1 → ⊥) → (word ≡ 2 → ⊥) → Rgba8 ≡ wordLayout word
-first-layout zero a b = refl
-first-layout (suc zero) a b = absurd (a refl)
-first-layout (suc (suc zero)) a b = absurd (b refl)
-first-layout (suc (suc (suc word))) a b = refl
-
--- ---- the boundary's number
 pub misused-layout : (layout lent need : ℕ) → 3 ≤ layout → true ≡ misused layout lent need
 misused-layout layout lent need h = simp (le-ltb layout 3 h)
 
-neither : (a b : Bool) → (a || b) ≡ false → b ≡ false
-neither false b e = e
-neither true b e = absurd (true≢false e)
-
--- a call that is not misused was lent the words that its answer takes
-pub lent-enough : (layout lent need : ℕ) {t : Bool} → t ≡ misused layout lent need → t ≡ false → need ≤ lent
-lent-enough layout lent need e f = ltb-false lent need (neither (not (isLayout layout)) (ltb lent need) (sym e ∙ f))
-
-pub misuse-told : (n : ℕ) {t b : Bool} → t ≡ b → t ≡ true → boundary ≡ boundaryFirst b n
-misuse-told n e f = simp (sym e ∙ f)
-
--- ---- storing, word by word
-pub store-next : (words answer : List ℕ) (i : ℕ) → i < length words → i < length answer → set (take i answer ++ drop i words) i (getD answer i 0) ≡ take (suc i) answer ++ drop (suc i) words
-store-next words answer i h k = simp zero-add at (paste-suc words 0 answer i 0 (omega arith) k)
-
+-- ---- buffers
 -- a refusal's number keeps a buffer
-pub kept-by : (why : Refusal) (r : ℕ) (written kept : List ℕ) → r ≡ number why → kept ≡ bufferIf r written kept
-kept-by why r written kept e = simp (ne-eqb r 0 (λ z. omega (arith, number-pos why)))
+pub kept-by : (why : Refusal) (n : ℕ) (written kept : List ℕ) → n ≡ number why → kept ≡ bufferIf n written kept
+kept-by why n written kept e = simp (ne-eqb n 0 (λ z. omega (arith, number-pos why)))
+
+-- 0 has it written
+pub written-by : (n : ℕ) (words written kept : List ℕ) → 0 ≡ n → words ≡ written → words ≡ bufferIf n written kept
+written-by n words written kept z w = rw (← z) w
+
+-- a buffer that is written only where the number is 0
+pub written-once : (n : ℕ) (written kept : List ℕ) → bufferIf n written kept ≡ bufferIf n (bufferIf n written kept) kept
+written-once n written kept = twice (eqb n 0)
+  where
+    twice : (b : Bool) → cond b written kept ≡ cond b (cond b written kept) kept
+    twice true = refl
+    twice false = refl
+
+-- ---- a call that the boundary refuses: t is its test, n the library's number
+module _ {t b : Bool} (n : ℕ) (e : t ≡ b) (f : t ≡ true) where
+  pub misuse-told : boundary ≡ boundaryFirst b n
+  misuse-told = simp (sym e ∙ f)
+
+  pub misuse-kept : (written kept : List ℕ) → kept ≡ bufferIf (boundaryFirst b n) written kept
+  misuse-kept written kept = simp (sym e ∙ f)
+
+-- ---- a call that it lets pass
+pub passed : {t b : Bool} (n : ℕ) → t ≡ b → t ≡ false → n ≡ boundaryFirst b n
+passed n e f = simp (sym e ∙ f)
+
+-- n is the number told, x the library's
+pub buffer-told : (n x : ℕ) (words written kept : List ℕ) → x ≡ n → words ≡ bufferIf x written kept → words ≡ bufferIf n written kept
+buffer-told n x words written kept p w = rw p at w
 
 -- ---- a flag
 pub flag-refused : (answer : Flagged) (why : Refusal) (r : ℕ) (kept : List ℕ) → answer ≡ flagged.Refused why → r ≡ number why
-    → (r ≡ flaggedNumber answer) × (kept ≡ bufferIf r (storedFlag (flaggedFlag answer) kept) kept)
-flag-refused answer why r kept e f = (rw e f, kept-by why r _ kept f)
+    → (r ≡ flaggedNumber answer) × (kept ≡ bufferIf (flaggedNumber answer) (storedFlag (flaggedFlag answer) kept) kept)
+flag-refused answer why r kept e f = (rw e f, kept-by why (flaggedNumber answer) _ kept (rw e refl))
 
 pub flag-stored : (answer : Flagged) (flag : Bool) (word : ℕ) (words kept : List ℕ) → answer ≡ flagged.Flag flag → word ≡ flagWord flag → words ≡ stored (word ∷ []) kept
-    → (0 ≡ flaggedNumber answer) × (words ≡ bufferIf 0 (storedFlag (flaggedFlag answer) kept) kept)
+    → (0 ≡ flaggedNumber answer) × (words ≡ bufferIf (flaggedNumber answer) (storedFlag (flaggedFlag answer) kept) kept)
 flag-stored answer flag word words kept e f s = (rw e refl, rw e (rw f at s))
 
 same-flag : (b flag : Bool) (kept : List ℕ) → cond b (storedFlag (cond b flag false) kept) kept ≡ cond b (storedFlag flag kept) kept
 same-flag true flag kept = refl
 same-flag false flag kept = refl
 
--- what a function that answers by a flag comes to: t is the boundary's test, x the library's number, a the answer's, r the number returned
-pub flag-number : {t b : Bool} {r a x : ℕ} → t ≡ b → t ≡ false → a ≡ x → r ≡ a → r ≡ boundaryFirst b x
-flag-number e f m s = simp (sym e ∙ f) (s ∙ m)
+-- what a call that answers by a flag comes to, where it passed the boundary's test t: x is the library's number
+module _ {t b : Bool} (x : ℕ) (e : t ≡ b) (f : t ≡ false) (answer : Flagged) (m : flaggedNumber answer ≡ x) where
+  pub flag-number : (r : ℕ) → r ≡ flaggedNumber answer → r ≡ boundaryFirst b x
+  flag-number r s = s ∙ m ∙ passed x e f
 
-pub flag-told : (r a x : ℕ) (f flag : Bool) (words kept : List ℕ) → a ≡ x → r ≡ a → f ≡ flagIf x flag → words ≡ bufferIf r (storedFlag f kept) kept → words ≡ bufferIf r (storedFlag flag kept) kept
-flag-told r a x f flag words kept m s g w =
-    let e : x ≡ r = sym (s ∙ m) in
-    w ∙ rw (g, e) (same-flag (eqb r 0) flag kept)
+  pub flag-told : (flag : Bool) (words kept : List ℕ) → flaggedFlag answer ≡ flagIf x flag → words ≡ bufferIf (flaggedNumber answer) (storedFlag (flaggedFlag answer) kept) kept
+      → words ≡ bufferIf (boundaryFirst b x) (storedFlag flag kept) kept
+  flag-told flag words kept g w = w ∙ rw (g, m, ← passed x e f) (same-flag (eqb x 0) flag kept)
 
-pub buffer-told : (r a x : ℕ) (written words kept : List ℕ) → a ≡ x → r ≡ a → words ≡ bufferIf x written kept → words ≡ bufferIf r written kept
-buffer-told r a x written words kept m s w = let e : x ≡ r = sym (s ∙ m) in rw e at w
+-- ---- a size: n is the number told, x the library's
+module _ (answer : Sized) (n x : ℕ) (size : Dimensions) (p : x ≡ n) (m : sizedNumber answer ≡ x) where
+  pub size-refused : (why : Refusal) (r : ℕ) (kept : List ℕ) → answer ≡ sized.Refused why → r ≡ number why → (r ≡ n) × (kept ≡ bufferIf n (storedSize size kept) kept)
+  size-refused why r kept e f =
+      let z : number why ≡ n = (rw e at m) ∙ p in
+      (f ∙ z, kept-by why n _ kept (sym z))
 
--- ---- a size
-pub size-refused : (answer : Sized) (why : Refusal) (r x : ℕ) (size : Dimensions) (kept : List ℕ) → answer ≡ sized.Refused why → r ≡ number why → sizedNumber answer ≡ x
-    → (r ≡ x) × (kept ≡ bufferIf r (storedSize size kept) kept)
-size-refused answer why r x size kept e f m = (f ∙ (rw e at m), kept-by why r _ kept f)
-
-pub size-stored : (answer : Sized) (d : Dimensions) (x : ℕ) (size : Dimensions) (words kept : List ℕ) → answer ≡ sized.Size d → sizedNumber answer ≡ x → sizedSize answer ≡ sizeIf x size → words ≡ storedSize d kept
-    → (0 ≡ x) × (words ≡ storedSize size kept)
-size-stored answer d x size words kept e m s w =
-    let z : 0 ≡ x = rw e at m in
-    let q : d ≡ size = rw (e, ← z) at s in
-    (z, w ∙ rw q refl)
+  pub size-stored : (d : Dimensions) (words kept : List ℕ) → answer ≡ sized.Size d → sizedSize answer ≡ sizeIf x size → words ≡ storedSize d kept
+      → (0 ≡ n) × (words ≡ bufferIf n (storedSize size kept) kept)
+  size-stored d words kept e s w =
+      let z : 0 ≡ x = rw e at m in
+      let q : d ≡ size = rw (e, ← z) at s in
+      (z ∙ p, written-by n words _ kept (z ∙ p) (w ∙ rw q refl))

@@ -1,17 +1,15 @@
--- What each way out of start, offer and take gives, as the contracts state it. A refusal's number is not 0, so it keeps every buffer; where the call went
--- through, the record that the library hands back is the one that is stored. Assumes nothing.
+-- What each way out of start, offer and take gives, as the contracts state it. Where the call went through, the record that the library hands back is the one
+-- that is stored. Assumes nothing.
 use Prim.Native.Nat.{ℕ, _≤_}
-use mathlib.Core.Path.{_≡_, sym, _∙_}
-use mathlib.Core.Bool.{Bool, true, false}
-use mathlib.Core.List.{List, [], _∷_}
-use native.Mathlib.Omega.{arith}
-use lib.Dec.{eqb, ltb}
+use mathlib.Core.Path.{_≡_, refl, sym, _∙_}
+use mathlib.Core.Bool.{Bool, false}
+use mathlib.Core.List.{List}
+use lib.Dec.{ltb}
 use lib.ListN.{length}
-use borrow.Author.Tests.{le-ltb, ne-eqb}
+use borrow.Author.Tests.{le-ltb}
 use Rattle.pixels.specs.declared.Refusal.{Refusal}
 use Rattle.pixels.specs.declared.Refusal.the-variants.{InvalidRecord}
 use Rattle.pixels.specs.Refusals.{number, bufferIf}
-use Rattle.pixels.proofs.Numbers.{number-pos}
 use Rattle.job.specs.declared.Plan.{Plan}
 use Rattle.job.specs.declared.Job.{Job}
 use Rattle.job.specs.declared.Started.{Started}
@@ -23,108 +21,146 @@ use Rattle.job.specs.declared.Taken.the-variants as taken
 use Rattle.job.specs.Answers.{startedNumber, startedJob, offeredNumber, offeredRows, offeredJob, takenNumber, takenJob}
 use Rattle.job.specs.Record.{fresh}
 use Rattle.job.specs.Calls.{startNumber, startWork, offerNumber, offerRows, offerJob, offerWork, takeNumber, takeJob, takeOut, takeWork}
-use Rattle.capi.specs.Boundary.{boundaryFirst, layoutWord, flagWord, stored, storedWord}
-use Rattle.capi.specs.Words.{recordLength, recordWords, wordsJob, wordsLegal, recordFirst, storedJob}
-use Rattle.capi.proofs.Answers.{kept-by}
-use Rattle.capi.proofs.Records.{legal-of}
+use Rattle.capi_words.specs.declared.Told.{Told}
+use Rattle.capi_words.specs.declared.Told.the-variants as told
+use Rattle.capi_words.specs.Record.{wordsJob, wordsLegal, toldBy, storedJob}
+use Rattle.capi_words.proofs.Records.{job-legal, none-legal}
+use Rattle.capi.specs.Boundary.{boundaryFirst, recordFirst, storedWord}
+use Rattle.capi.specs.Jobs.{numberOfOffer, recordAfterOffer, workAfterOffer, countAfterOffer, numberOfTake, recordAfterTake, outAfterTake, workAfterTake}
+use Rattle.capi.proofs.Answers.{kept-by, written-by, written-once, passed, buffer-told}
 
-not-zero : (why : Refusal) (n : ℕ) → n ≡ number why → eqb n 0 ≡ false
-not-zero why n e = ne-eqb n 0 (λ z. omega (arith, number-pos why))
+-- ---- start: b is the boundary's test, and n the number told
+module _ (p : Plan) (work words next : List ℕ) (answer : Started) {t b : Bool} (e : t ≡ b) (f : t ≡ false)
+    (m : startedNumber answer ≡ startNumber p (length work)) (w : next ≡ startWork p work) where
+  abbrev n : ℕ
+  n = boundaryFirst b (startNumber p (length work))
 
--- ---- the record's words
-pub job-stored : (j : Job) (l f : ℕ) (next words : List ℕ) → l ≡ layoutWord (j .plan .layout) → f ≡ flagWord (j .flag)
-    → next
-    ≡ stored
-    (j .plan .source .width ∷ j .plan .source .height ∷ l ∷ j .plan .crop .x ∷ j .plan .crop .y ∷ j .plan .crop .width ∷ j .plan .crop .height ∷ j .plan .target .width ∷ j .plan .target .height ∷ j .accepted ∷ j .taken ∷ f ∷ [])
-    words
-    → next ≡ storedJob j words
-unfolding recordWords
-job-stored j l f next words a b h = rw (a, b) at h
-
-pub enough-words : (words : List ℕ) {t : Bool} → t ≡ wordsLegal words → t ≡ true → recordLength ≤ length words
-enough-words words e f = legal-of words (sym e ∙ f) .enough
-
-pub legal-number : (words : List ℕ) (n : ℕ) {t : Bool} → t ≡ wordsLegal words → t ≡ true → recordFirst words n ≡ n
-legal-number words n e f = simp (sym e ∙ f)
-
-pub no-record : (words : List ℕ) (n r : ℕ) {t : Bool} → t ≡ wordsLegal words → t ≡ false → r ≡ number InvalidRecord → r ≡ recordFirst words n
-no-record words n r e f h = h ∙ simp (sym e ∙ f)
-
-pub one-lent : (lent n r : ℕ) → 1 ≤ lent → r ≡ n → r ≡ boundaryFirst (ltb lent 1) n
-one-lent lent n r h e = e ∙ simp (le-ltb lent 1 h)
-
--- ---- start
-module _ (p : Plan) (work words next : List ℕ) (answer : Started) {t b : Bool} (e : t ≡ b) (f : t ≡ false) (m : startedNumber answer ≡ startNumber p (length work)) (w : next ≡ startWork p work) where
-  pub start-refused : (why : Refusal) (r : ℕ) → answer ≡ started.Refused why → r ≡ number why
-      → (r ≡ boundaryFirst b (startNumber p (length work))) × ((next ≡ bufferIf r (startWork p work) work) × (words ≡ bufferIf r (storedJob (fresh p) words) words))
+  start-work : next ≡ bufferIf n (startWork p work) work
   unfolding startWork
-  start-refused why r a n =
-      let z : startNumber p (length work) ≡ number why = sym (rw a at m) in
-      let k : next ≡ work = w ∙ simp (not-zero why _ z) in
-      (n ∙ simp (sym e ∙ f) (sym z), (k ∙ kept-by why r _ work n, kept-by why r _ words n))
+  start-work =
+      let x = startNumber p (length work) in
+      buffer-told n x next _ work (passed x e f) (w ∙ written-once x _ work)
 
-  pub start-fresh : (job : Job) (stored-words : List ℕ) → answer ≡ started.Fresh job → startedJob (fresh p) answer ≡ fresh p → stored-words ≡ storedJob job words
-      → (0 ≡ boundaryFirst b (startNumber p (length work))) × ((next ≡ startWork p work) × (stored-words ≡ storedJob (fresh p) words))
-  start-fresh job stored-words a j s =
-      let z : 0 ≡ startNumber p (length work) = rw a at m in
+  pub start-refused : (why : Refusal) (r : ℕ) → answer ≡ started.Refused why → r ≡ number why
+      → (r ≡ boundaryFirst b (startNumber p (length work)))
+      × ((next ≡ bufferIf (boundaryFirst b (startNumber p (length work))) (startWork p work) work)
+      × (words ≡ bufferIf (boundaryFirst b (startNumber p (length work))) (storedJob (fresh p) words) words))
+  start-refused why r a h =
+      let z : number why ≡ n = (rw a at m) ∙ passed (startNumber p (length work)) e f in
+      (h ∙ z, (start-work, kept-by why n _ words (sym z)))
+
+  pub start-fresh : (job : Job) (words′ : List ℕ) → answer ≡ started.Fresh job → startedJob (fresh p) answer ≡ fresh p → words′ ≡ storedJob job words
+      → (0 ≡ boundaryFirst b (startNumber p (length work)))
+      × ((next ≡ bufferIf (boundaryFirst b (startNumber p (length work))) (startWork p work) work)
+      × (words′ ≡ bufferIf (boundaryFirst b (startNumber p (length work))) (storedJob (fresh p) words) words))
+  start-fresh job words′ a j s =
+      let z : 0 ≡ n = (rw a at m) ∙ passed (startNumber p (length work)) e f in
       let q : job ≡ fresh p = rw a at j in
-      (simp (sym e ∙ f) z, (w, rw q at s))
+      (z, (start-work, written-by n words′ _ words z (rw q at s)))
 
--- ---- offer
-module _ (words rows work count next : List ℕ) (j : Job) (told : j ≡ wordsJob words) (answer : Offered) (lent : 1 ≤ length count) {t : Bool} (e : t ≡ wordsLegal words) (f : t ≡ true)
+-- ---- words that make no record
+pub no-record : (words : List ℕ) (n r : ℕ) {t : Told} → t ≡ toldBy words → t ≡ told.Nothing → r ≡ number InvalidRecord → r ≡ recordFirst words n
+no-record words n r e f h = h ∙ simp (none-legal words (sym e ∙ f))
+
+pub one-lent : (lent n : ℕ) → 1 ≤ lent → n ≡ boundaryFirst (ltb lent 1) n
+one-lent lent n h = simp (le-ltb lent 1 h)
+
+pub offer-no-record : (words rows work count : List ℕ) (r : ℕ) {t : Told} → 1 ≤ length count → t ≡ toldBy words → t ≡ told.Nothing → r ≡ number InvalidRecord
+    → (r ≡ numberOfOffer words (length rows) (length work) (length count))
+    × ((words ≡ recordAfterOffer words (length rows) (length work) (length count))
+    × ((work ≡ workAfterOffer words rows work (length count)) × (count ≡ countAfterOffer words (length rows) (length work) count)))
+unfolding numberOfOffer recordAfterOffer workAfterOffer countAfterOffer
+offer-no-record words rows work count r lent e f h =
+    let x = offerNumber (wordsJob words) (length rows) (length work) in
+    let z : r ≡ boundaryFirst (ltb (length count) 1) (recordFirst words x) = no-record words x r e f h ∙ one-lent (length count) (recordFirst words x) lent in
+    let k = sym z ∙ h in
+    (z, (kept-by InvalidRecord _ _ words k, (kept-by InvalidRecord _ _ work k, kept-by InvalidRecord _ _ count k)))
+
+pub take-no-record : (words out work : List ℕ) (r : ℕ) {t : Told} → t ≡ toldBy words → t ≡ told.Nothing → r ≡ number InvalidRecord
+    → (r ≡ numberOfTake words (length out) (length work))
+    × ((words ≡ recordAfterTake words (length out) work) × ((out ≡ outAfterTake words out work) × (work ≡ workAfterTake words (length out) work)))
+unfolding numberOfTake recordAfterTake outAfterTake workAfterTake
+take-no-record words out work r e f h =
+    let z : r ≡ recordFirst words (takeNumber (wordsJob words) (length out) (length work)) = no-record words _ r e f h in
+    let k = sym z ∙ h in
+    (z, (kept-by InvalidRecord _ _ words k, (kept-by InvalidRecord _ _ out k, kept-by InvalidRecord _ _ work k)))
+
+-- ---- offer to the job j that the words tell
+module _ (words rows work count next : List ℕ) (j : Job) {t : Told} (e : t ≡ toldBy words) (f : t ≡ told.Job j) (lent : 1 ≤ length count) (answer : Offered)
     (m : offeredNumber answer ≡ offerNumber j (length rows) (length work)) (w : next ≡ offerWork j rows work) where
-  abbrev theirs : ℕ
-  theirs = boundaryFirst (ltb (length count) 1) (recordFirst words (offerNumber (wordsJob words) (length rows) (length work)))
+  same : j ≡ wordsJob words
+  same = sym (job-legal words j (sym e ∙ f) .1)
 
-  number-is : (r : ℕ) → r ≡ offerNumber j (length rows) (length work) → r ≡ theirs
-  number-is r h =
-      one-lent (length count) (recordFirst words (offerNumber (wordsJob words) (length rows) (length work))) r lent
-      ((rw told at h) ∙ sym (legal-number words (offerNumber (wordsJob words) (length rows) (length work)) e f))
+  number-is : offerNumber j (length rows) (length work) ≡ numberOfOffer words (length rows) (length work) (length count)
+  unfolding numberOfOffer
+  number-is =
+      let l = job-legal words j (sym e ∙ f) in
+      simp (le-ltb (length count) 1 lent, l .0, l .1)
+
+  work-is : next ≡ workAfterOffer words rows work (length count)
+  unfolding workAfterOffer offerWork
+  work-is =
+      let x = offerNumber j (length rows) (length work) in
+      rw (← same) (buffer-told _ x next _ work number-is (w ∙ written-once x _ work))
 
   pub offer-refused : (why : Refusal) (job : Job) (r : ℕ) → answer ≡ offered.Refused why job → r ≡ number why
-      → (r ≡ boundaryFirst (ltb (length count) 1) (recordFirst words (offerNumber (wordsJob words) (length rows) (length work))))
-      × ((words ≡ bufferIf r (storedJob (offerJob (wordsJob words) (length rows) (length work)) words) words)
-      × ((next ≡ bufferIf r (offerWork (wordsJob words) rows work) work)
-      × (count ≡ bufferIf r (storedWord (offerRows (wordsJob words) (length rows) (length work)) count) count)))
-  unfolding offerWork
-  offer-refused why job r a n =
-      let z : number why ≡ offerNumber j (length rows) (length work) = rw a at m in
-      let k : next ≡ work = w ∙ simp (not-zero why _ (sym z)) in
-      (number-is r (n ∙ z), (kept-by why r _ words n, (k ∙ kept-by why r _ work n, kept-by why r _ count n)))
+      → (r ≡ numberOfOffer words (length rows) (length work) (length count))
+      × ((words ≡ recordAfterOffer words (length rows) (length work) (length count))
+      × ((next ≡ workAfterOffer words rows work (length count)) × (count ≡ countAfterOffer words (length rows) (length work) count)))
+  unfolding recordAfterOffer countAfterOffer
+  offer-refused why job r a h =
+      let z : number why ≡ numberOfOffer words (length rows) (length work) (length count) = (rw a at m) ∙ number-is in
+      (h ∙ z, (kept-by why _ _ words (sym z), (work-is, kept-by why _ _ count (sym z))))
 
   pub offer-accepted : (n : ℕ) (job : Job) (words′ count′ : List ℕ) → answer ≡ offered.Accepted n job → offeredRows answer ≡ offerRows j (length rows) (length work)
       → offeredJob answer ≡ offerJob j (length rows) (length work) → words′ ≡ storedJob job words → count′ ≡ storedWord n count
-      → (0 ≡ boundaryFirst (ltb (length count) 1) (recordFirst words (offerNumber (wordsJob words) (length rows) (length work))))
-      × ((words′ ≡ storedJob (offerJob (wordsJob words) (length rows) (length work)) words)
-      × ((next ≡ offerWork (wordsJob words) rows work) × (count′ ≡ storedWord (offerRows (wordsJob words) (length rows) (length work)) count)))
+      → (0 ≡ numberOfOffer words (length rows) (length work) (length count))
+      × ((words′ ≡ recordAfterOffer words (length rows) (length work) (length count))
+      × ((next ≡ workAfterOffer words rows work (length count)) × (count′ ≡ countAfterOffer words (length rows) (length work) count)))
+  unfolding recordAfterOffer countAfterOffer
   offer-accepted n job words′ count′ a c o s u =
-      let z : 0 ≡ offerNumber j (length rows) (length work) = rw a at m in
-      let x : n ≡ offerRows (wordsJob words) (length rows) (length work) = rw (a, told) at c in
-      let y : job ≡ offerJob (wordsJob words) (length rows) (length work) = rw (a, told) at o in
-      (number-is 0 z, (rw y at s, (rw told at w, rw x at u)))
+      let z : 0 ≡ numberOfOffer words (length rows) (length work) (length count) = (rw a at m) ∙ number-is in
+      let x : n ≡ offerRows (wordsJob words) (length rows) (length work) = rw (a, same) at c in
+      let y : job ≡ offerJob (wordsJob words) (length rows) (length work) = rw (a, same) at o in
+      (z, (written-by _ words′ _ words z (rw y at s), (work-is, written-by _ count′ _ count z (rw x at u))))
 
--- ---- take
-module _ (words out work out′ work′ : List ℕ) (j : Job) (told : j ≡ wordsJob words) (answer : Taken) {t : Bool} (e : t ≡ wordsLegal words) (f : t ≡ true)
+-- ---- take from the job j that the words tell
+module _ (words out work out′ work′ : List ℕ) (j : Job) {t : Told} (e : t ≡ toldBy words) (f : t ≡ told.Job j) (answer : Taken)
     (m : takenNumber answer ≡ takeNumber j (length out) (length work)) (o : out′ ≡ takeOut j out work) (w : work′ ≡ takeWork j (length out) work) where
-  take-number : (r : ℕ) → r ≡ takeNumber j (length out) (length work) → r ≡ recordFirst words (takeNumber (wordsJob words) (length out) (length work))
-  take-number r h = (rw told at h) ∙ sym (legal-number words (takeNumber (wordsJob words) (length out) (length work)) e f)
+  told-by : j ≡ wordsJob words
+  told-by = sym (job-legal words j (sym e ∙ f) .1)
+
+  take-number : takeNumber j (length out) (length work) ≡ numberOfTake words (length out) (length work)
+  unfolding numberOfTake
+  take-number =
+      let l = job-legal words j (sym e ∙ f) in
+      simp (l .0, l .1)
+
+  out-is : out′ ≡ outAfterTake words out work
+  unfolding outAfterTake takeOut
+  out-is =
+      let x = takeNumber j (length out) (length work) in
+      rw (← told-by) (buffer-told _ x out′ _ out take-number (o ∙ written-once x _ out))
+
+  left-is : work′ ≡ workAfterTake words (length out) work
+  unfolding workAfterTake takeWork
+  left-is =
+      let x = takeNumber j (length out) (length work) in
+      rw (← told-by) (buffer-told _ x work′ _ work take-number (w ∙ written-once x _ work))
 
   pub take-refused : (why : Refusal) (job : Job) (r : ℕ) → answer ≡ taken.Refused why job → r ≡ number why
-      → (r ≡ recordFirst words (takeNumber (wordsJob words) (length out) (length work)))
-      × ((words ≡ bufferIf r (storedJob (takeJob (wordsJob words) (length out) work) words) words)
-      × ((out′ ≡ bufferIf r (takeOut (wordsJob words) out work) out) × (work′ ≡ bufferIf r (takeWork (wordsJob words) (length out) work) work)))
-  unfolding takeOut takeWork
-  take-refused why job r a n =
-      let z : number why ≡ takeNumber j (length out) (length work) = rw a at m in
-      let k : out′ ≡ out = o ∙ simp (not-zero why _ (sym z)) in
-      let l : work′ ≡ work = w ∙ simp (not-zero why _ (sym z)) in
-      (take-number r (n ∙ z), (kept-by why r _ words n, (k ∙ kept-by why r _ out n, l ∙ kept-by why r _ work n)))
+      → (r ≡ numberOfTake words (length out) (length work))
+      × ((words ≡ recordAfterTake words (length out) work) × ((out′ ≡ outAfterTake words out work) × (work′ ≡ workAfterTake words (length out) work)))
+  unfolding recordAfterTake
+  take-refused why job r a h =
+      let z : number why ≡ numberOfTake words (length out) (length work) = (rw a at m) ∙ take-number in
+      (h ∙ z, (kept-by why _ _ words (sym z), (out-is, left-is)))
 
   pub take-wrote : (job : Job) (words′ : List ℕ) → answer ≡ taken.Wrote job → takenJob answer ≡ takeJob j (length out) work → words′ ≡ storedJob job words
-      → (0 ≡ recordFirst words (takeNumber (wordsJob words) (length out) (length work)))
-      × ((words′ ≡ storedJob (takeJob (wordsJob words) (length out) work) words)
-      × ((out′ ≡ takeOut (wordsJob words) out work) × (work′ ≡ takeWork (wordsJob words) (length out) work)))
+      → (0 ≡ numberOfTake words (length out) (length work))
+      × ((words′ ≡ recordAfterTake words (length out) work) × ((out′ ≡ outAfterTake words out work) × (work′ ≡ workAfterTake words (length out) work)))
+  unfolding recordAfterTake
   take-wrote job words′ a c s =
-      let z : 0 ≡ takeNumber j (length out) (length work) = rw a at m in
-      let y : job ≡ takeJob (wordsJob words) (length out) work = rw (a, told) at c in
-      (take-number 0 z, (rw y at s, (rw told at o, rw told at w)))
+      let z : 0 ≡ numberOfTake words (length out) (length work) = (rw a at m) ∙ take-number in
+      let y : job ≡ takeJob (wordsJob words) (length out) work = rw (a, told-by) at c in
+      (z, (written-by _ words′ _ words z (rw y at s), (out-is, left-is)))

@@ -1,3 +1,3 @@
 pub mod Answers
-pub mod Records
 pub mod Jobs
+pub mod Pictures

@@ -1,2 +1,3 @@
 pub mod Boundary
-pub mod Words
+pub mod Jobs
+pub mod Pictures

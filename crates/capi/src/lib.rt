@@ -1,98 +1,30 @@
 // The library for C (include/jonquilsaw.h): numbers and slices only. In C a slice is a pointer, then a count of elements. Every function answers for all
 // arguments: 0 where the call was accepted, document 01's number where it was refused, and BOUNDARY for what only this boundary can be asked, tested first.
-use job::Job;
+use capi_words::LAYOUTS;
+use capi_words::RECORD_WORDS;
+use capi_words::Told;
+use capi_words::flag_word;
+use capi_words::layout_of;
+use capi_words::read_job;
+use capi_words::store;
+use capi_words::store_job;
 use job::Offered;
-use job::Plan;
 use job::Started;
 use job::Taken;
 use pixels::Dimensions;
 use pixels::Flagged;
-use pixels::PixelLayout;
 use pixels::Rect;
 use pixels::Refusal;
 use pixels::Sized;
 ghost use mathlib.Core.Path.{_≡_};
-ghost use Prim.Native.Nat.{_*_, _≤_};
-ghost use lib.Dec.{ltb};
 ghost use lib.ListN.{length};
-ghost use Rattle.pixels.specs.Refusals.{number, bufferIf, flaggedNumber, flaggedFlag};
-ghost use Rattle.pixels.specs.Sizes.{sizeOf, rectOf, scaledNumber, scaledSize};
-ghost use Rattle.pixels.specs.Picture.{hasAlpha, pictureNumber, cropped, cropNumber, withAlpha, alphaNumber};
-ghost use Rattle.job.specs.Record.{fresh};
-ghost use Rattle.job.specs.Calls.{startNumber, startWork, offerNumber, offerRows, offerJob, offerWork, takeNumber, takeJob, takeOut, takeWork};
-ghost use Rattle.claim.specs.Rows.{resized, resizedFlag};
-ghost use Rattle.picture.specs.Resize.{resizeNumber, resizedWork};
-ghost use Rattle.capi.specs.Words.{recordLength, wordsPlan, wordsJob, wordsLegal, recordFirst, storedJob};
-ghost use Rattle.capi.specs.Boundary.{boundaryFirst, misused, wordLayout, layoutWord, flagWord, stored, storedFlag, storedWord, storedSize};
+ghost use Rattle.pixels.specs.Refusals.{bufferIf, flaggedNumber, flaggedFlag};
+ghost use Rattle.capi.specs.Boundary.{misused, storedFlag};
+ghost use Rattle.capi.specs.Jobs.{numberOfStart, workAfterStart, recordAfterStart, numberOfOffer, recordAfterOffer, workAfterOffer, countAfterOffer, numberOfTake, recordAfterTake, outAfterTake, workAfterTake};
+ghost use Rattle.capi.specs.Pictures.{numberOfHasAlpha, flagAfterHasAlpha, numberOfCrop, outAfterCrop, flagAfterCrop, numberOfResize, outAfterResize, workAfterResize, flagAfterResize, numberOfPlane, pixelsAfterPlane, flagAfterPlane, numberOfScaled, sizeAfterScaled};
 
 // Above every number of documents 01 and 02: a layout argument that is none, or an answer slice that is too short.
 const BOUNDARY: u32 = 100;
-
-// How many words a record takes.
-const RECORD_WORDS: usize = 12;
-
-// Layouts are numbered from 0 in the order of PixelLayout.
-const LAYOUTS: u32 = 3;
-
-// ---- words
-
-fn layout_of(word: u32) -> PixelLayout
-    ensures { λ r. ⌜ r ≡ wordLayout word ⌝ }
-{
-    match word {
-        1 => PixelLayout::Argb8,
-        2 => PixelLayout::Bgra8,
-        _ => PixelLayout::Rgba8,
-    }
-}
-
-// The number of document 01's table.
-fn number_of(why: Refusal) -> u32
-    ensures { λ r. ⌜ r ≡ number why ⌝ }
-{
-    match why {
-        Refusal::InvalidDimensions => 1,
-        Refusal::CropOutOfBounds => 2,
-        Refusal::PixelBufferMismatch => 3,
-        Refusal::OutputLength => 4,
-        Refusal::WorkLength => 5,
-        Refusal::InvalidRecord => 6,
-        Refusal::RowReady => 7,
-        Refusal::AllAccepted => 8,
-        Refusal::NoneReady => 9,
-    }
-}
-
-fn layout_word(layout: PixelLayout) -> u32
-    ensures { λ r. ⌜ r ≡ layoutWord layout ⌝ }
-{
-    match layout {
-        PixelLayout::Rgba8 => 0,
-        PixelLayout::Argb8 => 1,
-        PixelLayout::Bgra8 => 2,
-    }
-}
-
-fn flag_word(flag: bool) -> u32
-    ensures { λ r. ⌜ r ≡ flagWord flag ⌝ }
-{
-    if flag {
-        return 1;
-    }
-    0
-}
-
-// Stores an answer in lent words, from the first on.
-fn store(answer: &[u32], words: &mut [u32])
-    requires { ⌜ length (now answer) ≤ length (now words) ⌝ }
-    ensures { λ _. ⌜ now (words .exit) ≡ stored (now (answer .entry)) (now (words .entry)) ⌝ }
-{
-    let mut i = 0;
-    while i < answer.len() {
-        words[i] = answer[i];
-        i += 1;
-    }
-}
 
 // A layout argument that is none, or fewer words lent for the answer than it takes.
 fn misused(layout: u32, lent: usize, need: usize) -> bool
@@ -104,86 +36,13 @@ fn misused(layout: u32, lent: usize, need: usize) -> bool
     lent < need
 }
 
-// ---- the record
-
-// Whether the words make a record: enough of them, the layout's and the flag's among their values.
-fn legal(words: &[u32]) -> bool
-    ensures { λ r. ⌜ r ≡ wordsLegal (now (words .entry)) ⌝ }
-{
-    if words.len() < RECORD_WORDS {
-        return false;
-    }
-    if words[2] >= LAYOUTS {
-        return false;
-    }
-    words[11] <= 1
-}
-
-fn read_job(words: &[u32]) -> Job
-    requires { ⌜ recordLength ≤ length (now words) ⌝ }
-    ensures { λ r. ⌜ r ≡ wordsJob (now (words .entry)) ⌝ }
-{
-    let source = Dimensions {
-        width: words[0],
-        height: words[1],
-    };
-    let crop = Rect {
-        x: words[3],
-        y: words[4],
-        width: words[5],
-        height: words[6],
-    };
-    let target = Dimensions {
-        width: words[7],
-        height: words[8],
-    };
-    let layout = layout_of(words[2]);
-    let plan = Plan {
-        source: source,
-        layout: layout,
-        crop: crop,
-        target: target,
-    };
-    Job {
-        plan: plan,
-        accepted: words[9],
-        taken: words[10],
-        flag: words[11] == 1,
-    }
-}
-
-fn store_job(job: Job, words: &mut [u32])
-    requires { ⌜ recordLength ≤ length (now words) ⌝ }
-    ensures { λ _. ⌜ now (words .exit) ≡ storedJob job (now (words .entry)) ⌝ }
-{
-    let plan = job.plan;
-    let layout = plan.layout;
-    let answer = [
-        plan.source.width,
-        plan.source.height,
-        layout_word(layout),
-        plan.crop.x,
-        plan.crop.y,
-        plan.crop.width,
-        plan.crop.height,
-        plan.target.width,
-        plan.target.height,
-        job.accepted,
-        job.taken,
-        flag_word(job.flag),
-    ];
-    store(&answer, words);
-}
-
-// ---- flags
-
+// The number of an answer by a flag, which is stored in one lent word.
 fn store_flag(answer: Flagged, flag: &mut [u32]) -> u32
-    requires { ⌜ 1 ≤ length (now flag) ⌝ }
     ensures number { λ r. ⌜ r ≡ flaggedNumber answer ⌝ }
-    ensures flag { λ r. ⌜ now (flag .exit) ≡ bufferIf r (storedFlag (flaggedFlag answer) (now (flag .entry))) (now (flag .entry)) ⌝ }
+    ensures flag { λ _. ⌜ now (flag .exit) ≡ bufferIf (flaggedNumber answer) (storedFlag (flaggedFlag answer) (now (flag .entry))) (now (flag .entry)) ⌝ }
 {
     match answer {
-        Flagged::Refused(why) => number_of(why),
+        Flagged::Refused(why) => why.number(),
         Flagged::Flag(f) => {
             store(&[flag_word(f)], flag);
             0
@@ -209,9 +68,9 @@ pub extern "C" fn jonquilsaw_start(
     work: &mut [u32],
     record: &mut [u32],
 ) -> u32
-    ensures number { λ r. ⌜ r ≡ boundaryFirst (misused layout (length (now («record» .entry))) recordLength) (startNumber (wordsPlan «source_width» «source_height» layout «crop_x» «crop_y» «crop_width» «crop_height» «target_width» «target_height») (length (now (work .entry)))) ⌝ }
-    ensures work { λ r. ⌜ now (work .exit) ≡ bufferIf r (startWork (wordsPlan «source_width» «source_height» layout «crop_x» «crop_y» «crop_width» «crop_height» «target_width» «target_height») (now (work .entry))) (now (work .entry)) ⌝ }
-    ensures record { λ r. ⌜ now («record» .exit) ≡ bufferIf r (storedJob (fresh (wordsPlan «source_width» «source_height» layout «crop_x» «crop_y» «crop_width» «crop_height» «target_width» «target_height»)) (now («record» .entry))) (now («record» .entry)) ⌝ }
+    ensures number { λ r. ⌜ r ≡ numberOfStart «source_width» «source_height» layout «crop_x» «crop_y» «crop_width» «crop_height» «target_width» «target_height» (length (now (work .entry))) (length (now («record» .entry))) ⌝ }
+    ensures work { λ _. ⌜ now (work .exit) ≡ workAfterStart «source_width» «source_height» layout «crop_x» «crop_y» «crop_width» «crop_height» «target_width» «target_height» (now (work .entry)) (length (now («record» .entry))) ⌝ }
+    ensures record { λ _. ⌜ now («record» .exit) ≡ recordAfterStart «source_width» «source_height» layout «crop_x» «crop_y» «crop_width» «crop_height» «target_width» «target_height» (length (now (work .entry))) (now («record» .entry)) ⌝ }
 {
     if misused(layout, record.len(), RECORD_WORDS) {
         return BOUNDARY;
@@ -232,7 +91,7 @@ pub extern "C" fn jonquilsaw_start(
     };
     let answer = job::start(source, layout_of(layout), crop, target, work);
     match answer {
-        Started::Refused { why } => number_of(why),
+        Started::Refused { why } => why.number(),
         Started::Fresh { job } => {
             store_job(job, record);
             0
@@ -249,22 +108,23 @@ pub extern "C" fn jonquilsaw_offer(
     work: &mut [u32],
     count: &mut [u32],
 ) -> u32
-    ensures number { λ r. ⌜ r ≡ boundaryFirst (ltb (length (now (count .entry))) 1) (recordFirst (now («record» .entry)) (offerNumber (wordsJob (now («record» .entry))) (length (now (rows .entry))) (length (now (work .entry))))) ⌝ }
-    ensures record { λ r. ⌜ now («record» .exit) ≡ bufferIf r (storedJob (offerJob (wordsJob (now («record» .entry))) (length (now (rows .entry))) (length (now (work .entry)))) (now («record» .entry))) (now («record» .entry)) ⌝ }
-    ensures work { λ r. ⌜ now (work .exit) ≡ bufferIf r (offerWork (wordsJob (now («record» .entry))) (now (rows .entry)) (now (work .entry))) (now (work .entry)) ⌝ }
-    ensures count { λ r. ⌜ now (count .exit) ≡ bufferIf r (storedWord (offerRows (wordsJob (now («record» .entry))) (length (now (rows .entry))) (length (now (work .entry)))) (now (count .entry))) (now (count .entry)) ⌝ }
+    ensures number { λ r. ⌜ r ≡ numberOfOffer (now («record» .entry)) (length (now (rows .entry))) (length (now (work .entry))) (length (now (count .entry))) ⌝ }
+    ensures record { λ _. ⌜ now («record» .exit) ≡ recordAfterOffer (now («record» .entry)) (length (now (rows .entry))) (length (now (work .entry))) (length (now (count .entry))) ⌝ }
+    ensures work { λ _. ⌜ now (work .exit) ≡ workAfterOffer (now («record» .entry)) (now (rows .entry)) (now (work .entry)) (length (now (count .entry))) ⌝ }
+    ensures count { λ _. ⌜ now (count .exit) ≡ countAfterOffer (now («record» .entry)) (length (now (rows .entry))) (length (now (work .entry))) (now (count .entry)) ⌝ }
 {
     if count.len() < 1 {
         return BOUNDARY;
     }
-    if !legal(record) {
-        return number_of(Refusal::InvalidRecord);
-    }
-    let answer = read_job(record).offer(rows, work);
+    let told = read_job(record);
+    let Told::Job { job } = told else {
+        return Refusal::InvalidRecord.number();
+    };
+    let answer = job.offer(rows, work);
     match answer {
-        Offered::Refused { why, job: _ } => number_of(why),
-        Offered::Accepted { rows: n, job } => {
-            store_job(job, record);
+        Offered::Refused { why, job: _ } => why.number(),
+        Offered::Accepted { rows: n, job: next } => {
+            store_job(next, record);
             store(&[n], count);
             0
         }
@@ -275,19 +135,20 @@ pub extern "C" fn jonquilsaw_offer(
 // Rules out: a row written and the record's words left; a row written by a refused call.
 #[no_mangle]
 pub extern "C" fn jonquilsaw_take(record: &mut [u32], out: &mut [u8], work: &mut [u32]) -> u32
-    ensures number { λ r. ⌜ r ≡ recordFirst (now («record» .entry)) (takeNumber (wordsJob (now («record» .entry))) (length (now (out .entry))) (length (now (work .entry)))) ⌝ }
-    ensures record { λ r. ⌜ now («record» .exit) ≡ bufferIf r (storedJob (takeJob (wordsJob (now («record» .entry))) (length (now (out .entry))) (now (work .entry))) (now («record» .entry))) (now («record» .entry)) ⌝ }
-    ensures out { λ r. ⌜ now (out .exit) ≡ bufferIf r (takeOut (wordsJob (now («record» .entry))) (now (out .entry)) (now (work .entry))) (now (out .entry)) ⌝ }
-    ensures work { λ r. ⌜ now (work .exit) ≡ bufferIf r (takeWork (wordsJob (now («record» .entry))) (length (now (out .entry))) (now (work .entry))) (now (work .entry)) ⌝ }
+    ensures number { λ r. ⌜ r ≡ numberOfTake (now («record» .entry)) (length (now (out .entry))) (length (now (work .entry))) ⌝ }
+    ensures record { λ _. ⌜ now («record» .exit) ≡ recordAfterTake (now («record» .entry)) (length (now (out .entry))) (now (work .entry)) ⌝ }
+    ensures out { λ _. ⌜ now (out .exit) ≡ outAfterTake (now («record» .entry)) (now (out .entry)) (now (work .entry)) ⌝ }
+    ensures work { λ _. ⌜ now (work .exit) ≡ workAfterTake (now («record» .entry)) (length (now (out .entry))) (now (work .entry)) ⌝ }
 {
-    if !legal(record) {
-        return number_of(Refusal::InvalidRecord);
-    }
-    let answer = read_job(record).take(out, work);
+    let told = read_job(record);
+    let Told::Job { job } = told else {
+        return Refusal::InvalidRecord.number();
+    };
+    let answer = job.take(out, work);
     match answer {
-        Taken::Refused { why, job: _ } => number_of(why),
-        Taken::Wrote { job } => {
-            store_job(job, record);
+        Taken::Refused { why, job: _ } => why.number(),
+        Taken::Wrote { job: next } => {
+            store_job(next, record);
             0
         }
     }
@@ -303,13 +164,13 @@ pub extern "C" fn jonquilsaw_has_alpha(
     pixels: &[u8],
     flag: &mut [u32],
 ) -> u32
-    ensures number { λ r. ⌜ r ≡ boundaryFirst (misused layout (length (now (flag .entry))) 1) (pictureNumber (sizeOf width height) (length (now (pixels .entry)))) ⌝ }
-    ensures flag { λ r. ⌜ now (flag .exit) ≡ bufferIf r (storedFlag (hasAlpha (wordLayout layout) (now (pixels .entry)) (width * height)) (now (flag .entry))) (now (flag .entry)) ⌝ }
+    ensures number { λ r. ⌜ r ≡ numberOfHasAlpha width height layout (length (now (pixels .entry))) (length (now (flag .entry))) ⌝ }
+    ensures flag { λ _. ⌜ now (flag .exit) ≡ flagAfterHasAlpha width height layout (now (pixels .entry)) (now (flag .entry)) ⌝ }
 {
     if misused(layout, flag.len(), 1) {
         return BOUNDARY;
     }
-    let answer = pictures::picture_has_alpha(
+    let answer = pixels_alpha::picture_has_alpha(
         Dimensions { width, height },
         layout_of(layout),
         pixels,
@@ -332,9 +193,9 @@ pub extern "C" fn jonquilsaw_crop(
     out: &mut [u8],
     flag: &mut [u32],
 ) -> u32
-    ensures number { λ r. ⌜ r ≡ boundaryFirst (misused layout (length (now (flag .entry))) 1) (cropNumber (sizeOf «source_width» «source_height») (rectOf «crop_x» «crop_y» «crop_width» «crop_height») (length (now (pixels .entry))) (length (now (out .entry)))) ⌝ }
-    ensures out { λ r. ⌜ now (out .exit) ≡ bufferIf r (cropped (sizeOf «source_width» «source_height») (rectOf «crop_x» «crop_y» «crop_width» «crop_height») (now (pixels .entry))) (now (out .entry)) ⌝ }
-    ensures flag { λ r. ⌜ now (flag .exit) ≡ bufferIf r (storedFlag (hasAlpha (wordLayout layout) (cropped (sizeOf «source_width» «source_height») (rectOf «crop_x» «crop_y» «crop_width» «crop_height») (now (pixels .entry))) («crop_width» * «crop_height»)) (now (flag .entry))) (now (flag .entry)) ⌝ }
+    ensures number { λ r. ⌜ r ≡ numberOfCrop «source_width» «source_height» layout «crop_x» «crop_y» «crop_width» «crop_height» (length (now (pixels .entry))) (length (now (out .entry))) (length (now (flag .entry))) ⌝ }
+    ensures out { λ _. ⌜ now (out .exit) ≡ outAfterCrop «source_width» «source_height» layout «crop_x» «crop_y» «crop_width» «crop_height» (now (pixels .entry)) (now (out .entry)) (length (now (flag .entry))) ⌝ }
+    ensures flag { λ _. ⌜ now (flag .exit) ≡ flagAfterCrop «source_width» «source_height» layout «crop_x» «crop_y» «crop_width» «crop_height» (now (pixels .entry)) (length (now (out .entry))) (now (flag .entry)) ⌝ }
 {
     if misused(layout, flag.len(), 1) {
         return BOUNDARY;
@@ -349,7 +210,7 @@ pub extern "C" fn jonquilsaw_crop(
         width: crop_width,
         height: crop_height,
     };
-    let answer = pictures::crop(source, layout_of(layout), pixels, rect, out);
+    let answer = pixels_crop::crop(source, layout_of(layout), pixels, rect, out);
     store_flag(answer, flag)
 }
 
@@ -367,10 +228,10 @@ pub extern "C" fn jonquilsaw_resize(
     work: &mut [u32],
     flag: &mut [u32],
 ) -> u32
-    ensures number { λ r. ⌜ r ≡ boundaryFirst (misused layout (length (now (flag .entry))) 1) (resizeNumber (sizeOf «source_width» «source_height») (sizeOf «target_width» «target_height») (length (now (pixels .entry))) (length (now (out .entry))) (length (now (work .entry)))) ⌝ }
-    ensures out { λ r. ⌜ now (out .exit) ≡ bufferIf r (resized (sizeOf «source_width» «source_height») (wordLayout layout) (sizeOf «target_width» «target_height») (now (pixels .entry))) (now (out .entry)) ⌝ }
-    ensures work { λ r. ⌜ now (work .exit) ≡ bufferIf r (resizedWork (sizeOf «source_width» «source_height») (wordLayout layout) (sizeOf «target_width» «target_height») (now (pixels .entry)) (now (work .entry))) (now (work .entry)) ⌝ }
-    ensures flag { λ r. ⌜ now (flag .exit) ≡ bufferIf r (storedFlag (resizedFlag (sizeOf «source_width» «source_height») (wordLayout layout) (sizeOf «target_width» «target_height») (now (pixels .entry))) (now (flag .entry))) (now (flag .entry)) ⌝ }
+    ensures number { λ r. ⌜ r ≡ numberOfResize «source_width» «source_height» layout «target_width» «target_height» (length (now (pixels .entry))) (length (now (out .entry))) (length (now (work .entry))) (length (now (flag .entry))) ⌝ }
+    ensures out { λ _. ⌜ now (out .exit) ≡ outAfterResize «source_width» «source_height» layout «target_width» «target_height» (now (pixels .entry)) (now (out .entry)) (length (now (work .entry))) (length (now (flag .entry))) ⌝ }
+    ensures work { λ _. ⌜ now (work .exit) ≡ workAfterResize «source_width» «source_height» layout «target_width» «target_height» (now (pixels .entry)) (length (now (out .entry))) (now (work .entry)) (length (now (flag .entry))) ⌝ }
+    ensures flag { λ _. ⌜ now (flag .exit) ≡ flagAfterResize «source_width» «source_height» layout «target_width» «target_height» (now (pixels .entry)) (length (now (out .entry))) (length (now (work .entry))) (now (flag .entry)) ⌝ }
 {
     if misused(layout, flag.len(), 1) {
         return BOUNDARY;
@@ -383,7 +244,7 @@ pub extern "C" fn jonquilsaw_resize(
         width: target_width,
         height: target_height,
     };
-    let answer = picture::resize(source, layout_of(layout), target, pixels, out, work);
+    let answer = job_resize::resize(source, layout_of(layout), target, pixels, out, work);
     store_flag(answer, flag)
 }
 
@@ -398,14 +259,14 @@ pub extern "C" fn jonquilsaw_apply_alpha_plane(
     plane: &[u8],
     flag: &mut [u32],
 ) -> u32
-    ensures number { λ r. ⌜ r ≡ boundaryFirst (misused layout (length (now (flag .entry))) 1) (alphaNumber (sizeOf width height) (length (now (pixels .entry))) (length (now (plane .entry)))) ⌝ }
-    ensures pixels { λ r. ⌜ now (pixels .exit) ≡ bufferIf r (withAlpha (wordLayout layout) (now (pixels .entry)) (now (plane .entry))) (now (pixels .entry)) ⌝ }
-    ensures flag { λ r. ⌜ now (flag .exit) ≡ bufferIf r (storedFlag (hasAlpha (wordLayout layout) (withAlpha (wordLayout layout) (now (pixels .entry)) (now (plane .entry))) (width * height)) (now (flag .entry))) (now (flag .entry)) ⌝ }
+    ensures number { λ r. ⌜ r ≡ numberOfPlane width height layout (length (now (pixels .entry))) (length (now (plane .entry))) (length (now (flag .entry))) ⌝ }
+    ensures pixels { λ _. ⌜ now (pixels .exit) ≡ pixelsAfterPlane width height layout (now (pixels .entry)) (now (plane .entry)) (length (now (flag .entry))) ⌝ }
+    ensures flag { λ _. ⌜ now (flag .exit) ≡ flagAfterPlane width height layout (now (pixels .entry)) (now (plane .entry)) (now (flag .entry)) ⌝ }
 {
     if misused(layout, flag.len(), 1) {
         return BOUNDARY;
     }
-    let answer = pictures::apply_alpha_plane(
+    let answer = pixels_alpha::apply_alpha_plane(
         Dimensions { width, height },
         layout_of(layout),
         pixels,
@@ -424,15 +285,15 @@ pub extern "C" fn jonquilsaw_scaled(
     target_height: u32,
     size: &mut [u32],
 ) -> u32
-    ensures number { λ r. ⌜ r ≡ boundaryFirst (ltb (length (now (size .entry))) 2) (scaledNumber (sizeOf width height) «target_width» «target_height») ⌝ }
-    ensures size { λ r. ⌜ now (size .exit) ≡ bufferIf r (storedSize (scaledSize (sizeOf width height) «target_width» «target_height») (now (size .entry))) (now (size .entry)) ⌝ }
+    ensures number { λ r. ⌜ r ≡ numberOfScaled width height «target_width» «target_height» (length (now (size .entry))) ⌝ }
+    ensures size { λ _. ⌜ now (size .exit) ≡ sizeAfterScaled width height «target_width» «target_height» (now (size .entry)) ⌝ }
 {
     if size.len() < 2 {
         return BOUNDARY;
     }
     let answer = Dimensions { width, height }.scaled(target_width, target_height);
     match answer {
-        Sized::Refused(why) => number_of(why),
+        Sized::Refused(why) => why.number(),
         Sized::Size(d) => {
             store(&[d.width, d.height], size);
             0

@@ -10,20 +10,33 @@ use native.Mathlib.Numerals.{add-one}
 use lib.ListN.{length, take, drop, length-drop}
 use lib.Seq.{length-take-le}
 use Rattle.pixels.specs.Sizes.{rowBytes, workValues}
-use Rattle.pixels.specs.Picture.{pictureRow}
-use Rattle.schedule.proofs.Crop.{rows-le}
+use Rattle.pixels_crop.specs.Crop.{pictureRow}
+use Rattle.pixels_crop.proofs.Windows.{row-part}
+use Rattle.rows_schedule.proofs.Crop.{rows-le}
 use Rattle.job.specs.declared.Plan.{Plan}
 use Rattle.job.specs.declared.Job.{Job}
-use Rattle.job.specs.Record.{R, Rules}
-use Rattle.job.specs.Calls.{lentRows, count, rowAccepted, fed, offerNumber}
+use Rattle.job.specs.Record.{lanesOf, R, Rules}
+use Rattle.job.specs.Inner.{RowAsks}
+use Rattle.job.specs.Calls.{lentRows, mostRows, count, rowAccepted, fed, offerNumber}
 use Rattle.job.proofs.Counting.{counted-is}
 use Rattle.job.proofs.Views.{OfferWent, offer-went}
+
+-- ---- the most rows there may be, as the code finds them; s is the length of a source row
+module _ (j : Job) (n s : ℕ) (is : s ≡ rowBytes (lanesOf (j .plan)) (j .plan .source .width)) where
+  lent-is : n / s ≡ lentRows (j .plan) n
+  lent-is = ap (λ (x : ℕ). n / x) is
+
+  pub most-lent : n / s < j .plan .source .height - j .accepted → n / s ≡ mostRows j n
+  most-lent l = lent-is ∙ (let m : lentRows (j .plan) n < j .plan .source .height - j .accepted = rw lent-is at l in omega arith)
+
+  pub most-left : j .plan .source .height - j .accepted ≤ n / s → j .plan .source .height - j .accepted ≡ mostRows j n
+  most-left l = let m : j .plan .source .height - j .accepted ≤ lentRows (j .plan) n = rw lent-is at l in omega arith
 
 fed-none : (p : Plan) (rows work : List ℕ) (k : ℕ) → work ≡ fed p rows k 0 work
 unfolding fed
 fed-none p rows work k = refl
 
-fed-more : (p : Plan) (rows work : List ℕ) (k i : ℕ) → rowAccepted p (pictureRow rows (p .source .width) i) (k + i) (fed p rows k i work) ≡ fed p rows k (i + 1) work
+fed-more : (p : Plan) (rows work : List ℕ) (k i : ℕ) → rowAccepted p (pictureRow (lanesOf p) rows (p .source .width) i) (k + i) (fed p rows k i work) ≡ fed p rows k (i + 1) work
 unfolding fed
 fed-more p rows work k i = rw (add-one i) refl
 
@@ -33,12 +46,12 @@ pub record Accepting (j : Job) (rows before : List ℕ) (most : ℕ) (work : Lis
   pub fed-is : work ≡ fed (j .plan) rows (j .accepted) i before
   pub long : length work ≡ length before
 
-module _ (j : Job) (rows before : List ℕ) (most : ℕ) (goes : offerNumber j (length rows) (length before) ≡ 0) (m : most ≡ min (lentRows (j .plan) (length rows)) (j .plan .source .height - j .accepted)) where
+module _ (j : Job) (rows before : List ℕ) (most : ℕ) (goes : offerNumber j (length rows) (length before) ≡ 0) (m : most ≡ mostRows j (length rows)) where
   abbrev o : OfferWent j rows before
   o = offer-went j rows before goes
 
   abbrev stride : ℕ
-  stride = rowBytes (j .plan .source .width)
+  stride = rowBytes (lanesOf (j .plan)) (j .plan .source .width)
 
   lent : length rows ≡ stride * lentRows (j .plan) (length rows)
   lent = omega (arith, div-add-mod (length rows) stride, o .whole .whole)
@@ -61,17 +74,25 @@ module _ (j : Job) (rows before : List ℕ) (most : ℕ) (goes : offerNumber j (
       }
 
   module _ (work : List ℕ) (i : ℕ) (a : Accepting j rows before most work i) where
-    pub in-lent : stride * i + stride ≤ length rows
-    in-lent =
+    whole-row : stride * i + stride ≤ length rows
+    whole-row =
         let l : suc i ≤ lentRows (j .plan) (length rows) = omega (arith, a .left) in
         omega (arith, lent, mul-le-mul-left stride l)
 
-    pub row-long : length (pictureRow rows (j .plan .source .width) i) ≡ stride
+    picture-row-long : length (pictureRow (lanesOf (j .plan)) rows (j .plan .source .width) i) ≡ stride
     unfolding pictureRow
-    row-long = length-take-le stride (drop (stride * i) rows) (simp length-drop (omega (arith, in-lent)))
+    picture-row-long = length-take-le stride (drop (stride * i) rows) (simp length-drop (omega (arith, whole-row)))
 
-    pub room : workValues (j .plan .target .width) ≤ length work
-    room = omega (arith, o .room, a .long)
+    -- the next row as the code lends it, s being what it has for the length of a row
+    module _ (s : ℕ) (s-is : s ≡ stride) where
+      pub in-lent : s * i + s ≤ length rows
+      in-lent = rw s-is whole-row
+
+      pub lent-row : take (s * i + s - s * i) (drop (s * i) rows) ≡ pictureRow (lanesOf (j .plan)) rows (j .plan .source .width) i
+      lent-row = rw s-is (row-part (lanesOf (j .plan)) rows (j .plan .source .width) i)
+
+      pub lent-asks : RowAsks (j .plan) (take (s * i + s - s * i) (drop (s * i) rows)) work
+      lent-asks = record { fits = o .rules .sizes; long = ap length lent-row ∙ picture-row-long; room = omega (arith, o .room, a .long) }
 
     pub in-range : j .accepted + i < 16384
     in-range = omega (arith, a .left, o .rules .sizes .source-height .most)
@@ -86,15 +107,15 @@ module _ (j : Job) (rows before : List ℕ) (most : ℕ) (goes : offerNumber j (
     -- the last that there may be
     pub accepting-full : i + 1 ≡ most → i + 1 ≡ count j (length rows)
     accepting-full e =
-        sym (counted-is (R (j .plan)) (j .accepted) (j .taken) (min (lentRows (j .plan) (length rows)) (j .plan .source .height - j .accepted)) (i + 1) (omega arith) still (inl (omega arith)))
+        sym (counted-is (R (j .plan)) (j .accepted) (j .taken) (o .none-ready) (mostRows j (length rows)) (i + 1) (omega arith) still (inl (omega arith)))
 
     -- the first that makes an output row ready
     pub accepting-ready : j .taken < R (j .plan) (j .accepted + (i + 1)) → i + 1 ≡ count j (length rows)
     accepting-ready l =
-        sym (counted-is (R (j .plan)) (j .accepted) (j .taken) (min (lentRows (j .plan) (length rows)) (j .plan .source .height - j .accepted)) (i + 1) (omega (arith, a .left)) still (inr l))
+        sym (counted-is (R (j .plan)) (j .accepted) (j .taken) (o .none-ready) (mostRows j (length rows)) (i + 1) (omega (arith, a .left)) still (inr l))
 
     -- after a row has come in
-    module _ (next row : List ℕ) (row-is : row ≡ pictureRow rows (j .plan .source .width) i) (e : next ≡ rowAccepted (j .plan) row (j .accepted + i) work) where
+    module _ (next row : List ℕ) (row-is : row ≡ pictureRow (lanesOf (j .plan)) rows (j .plan .source .width) i) (e : next ≡ rowAccepted (j .plan) row (j .accepted + i) work) where
       next-fed : next ≡ fed (j .plan) rows (j .accepted) (i + 1) before
       next-fed = e ∙ rw (row-is, a .fed-is) (fed-more (j .plan) rows before (j .accepted) i)
 

@@ -7,7 +7,7 @@ use mathlib.Core.Bool.{true, false, cond}
 use mathlib.Core.List.{List}
 use lib.Dec.{eqb}
 use lib.ListN.{length}
-use Rattle.pixels.proofs.Causes.{test}
+use Rattle.pixels.proofs.Truths.{test}
 use Rattle.job.specs.declared.Job.{Job}
 use Rattle.job.specs.Calls.{offerNumber, offerRows, offerJob, takeNumber, takeJob}
 

@@ -7,3 +7,4 @@ pub mod Restoring
 pub mod Accepting
 pub mod RowOut
 pub mod Lengths
+pub mod Testing

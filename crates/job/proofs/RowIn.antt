@@ -1,40 +1,23 @@
--- A source row comes in (document 01, "A row comes in" and "The job"): above and below the crop nothing happens; inside, its crop window goes to the half
--- that the definition names. No row of a lawful offer is refused by the layer below. Assumes nothing.
-use Prim.Native.Nat.{ℕ, _+_, _-_, _*_, _%_, _≤_, _<_}
-use mathlib.Core.Path.{_≡_, refl, sym, ap, _∙_}
-use mathlib.Core.Bool.{true, false, cond}
-use mathlib.Core.Logic.{_⊎_, inl, inr}
-use mathlib.Core.List.{List, _++_, append-nil}
+-- A source row comes in (document 01, "A row comes in" and "The job"): above and below the crop nothing happens; inside, its crop window is put into the
+-- work rows, and the layer below does not refuse it. Assumes nothing.
+use Prim.Native.Nat.{ℕ, _+_, _-_, _≤_, _<_}
+use mathlib.Core.Path.{_≡_, sym, ap, _∙_}
+use mathlib.Core.List.{List}
 use native.Mathlib.Omega.{arith}
-use lib.Dec.{eqb, leb}
-use lib.ListN.{length, take, drop, length-append, length-take, length-drop, drop-of-length-le}
-use lib.Seq.{take-all}
-use borrow.Author.Tests.{le-leb, lt-leb, lt-ltb, le-ltb, eq-eqb}
-use Rattle.arithmetic.proofs.Tables.{length-tabulate}
-use Rattle.pixels.specs.Refusals.{bufferIf}
-use Rattle.pixels.specs.Sizes.{rowBytes, halfValues, workValues, Fits}
-use Rattle.pixels.specs.Lanes.{matted}
-use Rattle.pixels.specs.Picture.{windowOf}
-use Rattle.pixels.proofs.Causes.{test}
-use Rattle.pixels.proofs.Fitting.{side-good}
-use Rattle.pixels.proofs.Windows.{window-length}
-use Rattle.rows.specs.Lanes.{rowValue}
-use Rattle.rows.specs.WorkRows.{written, added, rowIn, halfOf}
-use Rattle.rows.specs.Incoming.{importNumber, addNumber}
-use Rattle.rows.proofs.Incoming.{import-passes, add-passes}
+use lib.ListN.{length}
+use borrow.Author.Tests.{le-leb, lt-leb, lt-ltb, le-ltb}
+use Rattle.pixels.specs.declared.Dimensions.{Dimensions}
+use Rattle.pixels.specs.Sizes.{rowBytes, sizeOf, Fits}
+use Rattle.pixels_crop.specs.Crop.{windowOf}
+use Rattle.pixels.proofs.Fitting.{size-good}
+use Rattle.pixels_crop.proofs.Windows.{window-length}
+use Rattle.rows.specs.WorkRows.{rowIn}
+use Rattle.rows_adding.specs.Put.{putNumber, putWork}
+use Rattle.rows_adding.proofs.Putting.{put-fits, put-written}
 use Rattle.job.specs.declared.Plan.{Plan}
-use Rattle.job.specs.Calls.{valuesOf, rowAccepted}
-
--- ---- a part `&mut xs[a..]` that is lent and comes back
-module _ (xs : List ℕ) (a : ℕ) where
-  short : length (drop a xs) ≤ length xs - a
-  short = simp length-drop (omega arith)
-
-  lent : take (length xs - a) (drop a xs) ≡ drop a xs
-  lent = take-all (length xs - a) (drop a xs) short
-
-  back : (ys : List ℕ) → take a xs ++ (ys ++ drop (length xs - a) (drop a xs)) ≡ take a xs ++ ys
-  back ys = rw (drop-of-length-le (drop a xs) short, append-nil)
+use Rattle.job.specs.Calls.{scaleBy, valuesOf, rowAccepted}
+use Rattle.job.specs.Inner.{RowAsks}
+use Rattle.job.specs.Record.{lanesOf}
 
 module _ (p : Plan) (row : List ℕ) (s : ℕ) (work : List ℕ) where
   -- ---- beside the crop
@@ -49,66 +32,36 @@ module _ (p : Plan) (row : List ℕ) (s : ℕ) (work : List ℕ) where
 
     -- ---- inside it
     module _ (b : s - p .crop .y < p .crop .height) where
-      row-inside : rowAccepted p row s work ≡ rowIn (p .crop .height) (p .target .height) (halfValues (p .target .width)) (s - p .crop .y) (valuesOf p row) work
+      accepted-is : rowAccepted p row s work ≡ rowIn (scaleBy p) (s - p .crop .y) (valuesOf p row) work
       unfolding rowAccepted
-      row-inside = simp (le-leb (p .crop .y) s a, lt-ltb s (p .crop .y + p .crop .height) (omega arith))
+      accepted-is = simp (le-leb (p .crop .y) s a, lt-ltb s (p .crop .y + p .crop .height) (omega arith))
 
-      module _ (fits : Fits (p .source) (p .crop) (p .target)) (long : length row ≡ rowBytes (p .source .width)) (room : workValues (p .target .width) ≤ length work) (at : ℕ) (at-is : at ≡ cond (leb (p .target .height) (p .crop .height)) (halfValues (p .target .width)) (halfOf (halfValues (p .target .width)) (s - p .crop .y))) where
-        -- there is room for a half behind its place
-        pub at-low : at + halfValues (p .target .width) ≤ length work
-        at-low = by (test (leb (p .target .height) (p .crop .height))) (test (eqb ((s - p .crop .y) % 2) 0))
-          where
-            by : (leb (p .target .height) (p .crop .height) ≡ true) ⊎ (leb (p .target .height) (p .crop .height) ≡ false)
-                → (eqb ((s - p .crop .y) % 2) 0 ≡ true) ⊎ (eqb ((s - p .crop .y) % 2) 0 ≡ false) → at + halfValues (p .target .width) ≤ length work
-            by (inl e) f = let q : at ≡ halfValues (p .target .width) = rw e at at-is in omega arith
-            by (inr e) (inl f) = let q : at ≡ halfValues (p .target .width) = rw (e, f) at at-is in omega arith
-            by (inr e) (inr f) = let q : at ≡ 0 = rw (e, f) at at-is in omega arith
+      module _ (asks : RowAsks p row work) where
+        abbrev fits : Fits (p .source) (p .crop) (p .target)
+        fits = asks .fits
 
-        -- the row's window goes to its half
-        module _ (part half next : List ℕ) (part-is : part ≡ windowOf row (p .crop .x) (p .crop .width)) (half-is : half ≡ drop at work)
-            (imported : next ≡ bufferIf (importNumber (p .crop .width) (p .target .width) (length part) (length half)) (written (halfValues (p .target .width)) (rowValue (matted (p .layout) part) (p .crop .width) (p .target .width)) half) half) where
-          goes : importNumber (p .crop .width) (p .target .width) (length part) (length half) ≡ 0
-          goes =
-              let inside : rowBytes (p .crop .x + p .crop .width) ≤ length row = omega (arith, fits .right) in
-              import-passes (p .crop .width) (p .target .width) (length part) (length half)
-              (side-good (p .crop .width) (record { some = fits .crop-width; most = omega (arith, fits .right, fits .source-width .most) }))
-              (side-good (p .target .width) (fits .target-width))
-              (ap length part-is ∙ window-length row (p .crop .x) (p .crop .width) inside)
-              (rw half-is (simp length-drop (omega (arith, at-low))))
+        abbrev crop : Dimensions
+        crop = sizeOf (p .crop .width) (p .crop .height)
 
-          half-written : next ≡ written (halfValues (p .target .width)) (valuesOf p row) (drop at work)
-          half-written =
-              imported ∙ (let e : bufferIf (importNumber (p .crop .width) (p .target .width) (length part) (length half)) (written (halfValues (p .target .width)) (rowValue (matted (p .layout) part) (p .crop .width) (p .target .width)) half) half ≡ written (halfValues (p .target .width)) (rowValue (matted (p .layout) part) (p .crop .width) (p .target .width)) half = simp (eq-eqb _ 0 goes) in e)
-              ∙ rw (part-is, half-is)
+        abbrev part : List ℕ
+        part = windowOf (lanesOf p) row (p .crop .x) (p .crop .width)
 
-        -- the work rows with that part put back
-        pub row-next : (part ys : List ℕ) → part ≡ windowOf row (p .crop .x) (p .crop .width)
-            → ys ≡ bufferIf (importNumber (p .crop .width) (p .target .width) (length part) (length (take (length work - at) (drop at work)))) (written (halfValues (p .target .width)) (rowValue (matted (p .layout) part) (p .crop .width) (p .target .width)) (take (length work - at) (drop at work))) (take (length work - at) (drop at work))
-            → take at work ++ (ys ++ drop (length work - at) (drop at work)) ≡ take at work ++ written (halfValues (p .target .width)) (valuesOf p row) (drop at work)
-        row-next part ys part-is imported =
-            back work at ys ∙ ap (λ (z : List ℕ). take at work ++ z) (half-written part (take (length work - at) (drop at work)) ys part-is (lent work at) imported)
+        goes : putNumber crop (p .target) (length part) (length work) ≡ 0
+        goes =
+            put-fits crop (p .target) (length part) (length work)
+            (record {
+              crop-fits =
+                  size-good crop
+                  (record { some = fits .crop-width; most = omega (arith, fits .right, fits .source-width .most) })
+                  (record { some = fits .crop-height; most = omega (arith, fits .bottom, fits .source-height .most) });
+              target-fits = size-good (p .target) (fits .target-width) (fits .target-height);
+              row-length = window-length (lanesOf p) row (p .crop .x) (p .crop .width) (omega (arith, fits .right, asks .long));
+              work-room = asks .room;
+            })
 
-        module _ (next : List ℕ) (next-is : next ≡ take at work ++ written (halfValues (p .target .width)) (valuesOf p row) (drop at work)) where
-          -- the height grows: the other half is the older row
-          pub row-grows : p .crop .height < p .target .height → next ≡ rowAccepted p row s work
-          unfolding rowIn
-          row-grows l = next-is ∙ by (lt-leb (p .target .height) (p .crop .height) l) (test (eqb ((s - p .crop .y) % 2) 0)) ∙ sym row-inside
-            where
-              by : leb (p .target .height) (p .crop .height) ≡ false → (eqb ((s - p .crop .y) % 2) 0 ≡ true) ⊎ (eqb ((s - p .crop .y) % 2) 0 ≡ false)
-                  → take at work ++ written (halfValues (p .target .width)) (valuesOf p row) (drop at work) ≡ rowIn (p .crop .height) (p .target .height) (halfValues (p .target .width)) (s - p .crop .y) (valuesOf p row) work
-              by e (inl f) = let q : at ≡ halfValues (p .target .width) = rw (e, f) at at-is in rw q (simp (e, f))
-              by e (inr f) = let q : at ≡ 0 = rw (e, f) at at-is in rw q (simp (e, f))
-
-          -- the height does not grow: the second half is added to the first
-          pub row-adds : p .target .height ≤ p .crop .height → (last : List ℕ)
-              → last ≡ bufferIf (addNumber (p .target .width) (length next)) (added (halfValues (p .target .width)) next) next → last ≡ rowAccepted p row s work
-          unfolding rowIn
-          row-adds l last e =
-              let same : length next ≡ length work = ap length next-is ∙ simp (length-append, length-take, length-tabulate, length-drop) (omega (arith, at-low)) in
-              let f = le-leb (p .target .height) (p .crop .height) l in
-              let q : at ≡ halfValues (p .target .width) = rw f at at-is in
-              let z = add-passes (p .target .width) (length next) (side-good (p .target .width) (fits .target-width)) (omega arith) in
-              let d : bufferIf (addNumber (p .target .width) (length next)) (added (halfValues (p .target .width)) next) next ≡ added (halfValues (p .target .width)) next = simp (eq-eqb _ 0 z) in
-              e ∙ d ∙ ap (added (halfValues (p .target .width))) (next-is ∙ ap (λ (x : ℕ). take x work ++ written (halfValues (p .target .width)) (valuesOf p row) (drop x work)) q)
-              ∙ (let g : added (halfValues (p .target .width)) (take (halfValues (p .target .width)) work ++ written (halfValues (p .target .width)) (valuesOf p row) (drop (halfValues (p .target .width)) work)) ≡ rowIn (p .crop .height) (p .target .height) (halfValues (p .target .width)) (s - p .crop .y) (valuesOf p row) work = simp f in g)
-              ∙ sym row-inside
+        pub row-inside : (given next : List ℕ) → given ≡ part → next ≡ putWork (p .layout) crop (p .target) (s - p .crop .y) given work → next ≡ rowAccepted p row s work
+        row-inside given next given-is next-is =
+            next-is
+            ∙ ap (λ (z : List ℕ). putWork (p .layout) crop (p .target) (s - p .crop .y) z work) given-is
+            ∙ put-written (p .layout) crop (p .target) (s - p .crop .y) part work goes
+            ∙ sym accepted-is

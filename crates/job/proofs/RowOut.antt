@@ -8,33 +8,34 @@ use native.Mathlib.Omega.{arith}
 use lib.ListN.{length, getD}
 use borrow.Author.Tests.{eq-eqb}
 use Rattle.arithmetic.specs.Table.{tabulate}
-use Rattle.arithmetic.specs.Weight.{span}
 use Rattle.arithmetic.proofs.Tables.{length-tabulate, getD-tabulate, tabulate-cong}
 use Rattle.pixels.specs.declared.Dimensions.{Dimensions}
 use Rattle.pixels.specs.Sizes.{rowBytes, halfValues, sizeOf}
-use Rattle.pixels.specs.Picture.{hasAlpha}
+use Rattle.pixels_alpha.specs.Alpha.{hasAlpha}
 use Rattle.pixels.proofs.Fitting.{side-good, size-good}
-use Rattle.schedule.specs.Schedule.{needed}
-use Rattle.schedule.proofs.Needed.{needed-used}
+use Rattle.rows_schedule.specs.Schedule.{needed}
+use Rattle.rows_schedule.proofs.Needed.{needed-used}
 use Rattle.rows.specs.WorkRows.{byteOut}
-use Rattle.rows.specs.Scaling.{due, scaleNumber, scaledOut, scaledWork}
-use Rattle.rows.specs.Restoring.{restoreNumber, restoredRow, restoredOut, rowFlag}
-use Rattle.rows.proofs.Dues.{needed-due}
-use Rattle.rows.proofs.Scalings.{scale-passes}
-use Rattle.rows.proofs.Restorings.{restore-passes}
+use Rattle.rows_due.specs.Due.{due}
+use Rattle.rows_scaling.specs.Scaling.{scaleNumber, scaledOut, scaledWork}
+use Rattle.rows_restoring.specs.Restoring.{restoreNumber, restoredRow, restoredOut, rowFlag}
+use Rattle.rows_due.proofs.DueRow.{needed-due}
+use Rattle.rows_scaling.proofs.ScaleRow.{scale-passes}
+use Rattle.rows_restoring.proofs.RestoreRow.{restore-passes}
 use Rattle.job.specs.declared.Plan.{Plan}
 use Rattle.job.specs.declared.Job.{Job}
-use Rattle.job.specs.Calls.{usedBy, rowTaken, workTaken, takeNumber}
+use Rattle.job.specs.Calls.{scaleBy, usedBy, rowTaken, workTaken, takeNumber}
 use Rattle.job.proofs.Restoring.{restored-cong}
 use Rattle.job.proofs.Views.{TakeWent, take-went}
+use Rattle.job.specs.Record.{lanesOf}
 
 abbrev cropSize : Plan → Dimensions
 cropSize p = sizeOf (p .crop .width) (p .crop .height)
 
 -- the lanes of the row that goes out
-abbrev lanesOf : Job → List ℕ → ℕ → ℕ
-lanesOf j work =
-    byteOut (span (j .plan .crop .width) (j .plan .target .width)) (j .plan .crop .height) (j .plan .target .height) (halfValues (j .plan .target .width)) (usedBy j) (j .taken) work
+abbrev outOf : Job → List ℕ → ℕ → ℕ
+outOf j work =
+    byteOut (scaleBy (j .plan)) (usedBy j) (j .taken) work
 
 module _ (j : Job) (out work : List ℕ) (goes : takeNumber j (length out) (length work) ≡ 0) where
   abbrev w : TakeWent j out work
@@ -59,11 +60,16 @@ module _ (j : Job) (out work : List ℕ) (goes : takeNumber j (length out) (leng
   scale-goes : scaleNumber (cropSize (j .plan)) (j .plan .target) (usedBy j) (j .taken) (length out) (length work) ≡ 0
   scale-goes =
       scale-passes (cropSize (j .plan)) (j .plan .target) (usedBy j) (j .taken) (length out) (length work)
-      (size-good (cropSize (j .plan))
-      (record { some = w .rules .sizes .crop-width; most = omega (arith, w .rules .sizes .right, w .rules .sizes .source-width .most) })
-      (record { some = w .rules .sizes .crop-height; most = omega (arith, w .rules .sizes .bottom, w .rules .sizes .source-height .most) }))
-      (size-good (j .plan .target) (w .rules .sizes .target-width) (w .rules .sizes .target-height))
-      (w .exact) (w .room) row-due
+      (record {
+        crop-fits =
+            size-good (cropSize (j .plan))
+            (record { some = w .rules .sizes .crop-width; most = omega (arith, w .rules .sizes .right, w .rules .sizes .source-width .most) })
+            (record { some = w .rules .sizes .crop-height; most = omega (arith, w .rules .sizes .bottom, w .rules .sizes .source-height .most) });
+        target-fits = size-good (j .plan .target) (w .rules .sizes .target-width) (w .rules .sizes .target-height);
+        out-exact = w .exact;
+        work-enough = w .room;
+        ready = row-due;
+      })
 
   -- ---- the lanes, and the work rows afterwards; u is what the code has for the crop rows used
   module _ (u : ℕ) (u-is : u ≡ usedBy j) where
@@ -72,7 +78,7 @@ module _ (j : Job) (out work : List ℕ) (goes : takeNumber j (length out) (leng
     work-is next e = e ∙ rw u-is (simp (eq-eqb _ 0 scale-goes))
 
     lanes-are : (row : List ℕ) → row ≡ scaledOut (cropSize (j .plan)) (j .plan .target) u (j .taken) out work
-        → row ≡ tabulate (lanesOf j work) (halfValues (j .plan .target .width))
+        → row ≡ tabulate (outOf j work) (halfValues (lanesOf (j .plan)) (j .plan .target .width))
     unfolding scaledOut
     lanes-are row e = e ∙ rw u-is (simp (eq-eqb _ 0 scale-goes))
 
@@ -81,15 +87,15 @@ module _ (j : Job) (out work : List ℕ) (goes : takeNumber j (length out) (leng
       restore-goes : restoreNumber (j .plan .target .width) (length row) ≡ 0
       restore-goes =
           restore-passes (j .plan .target .width) (length row) (side-good (j .plan .target .width) (w .rules .sizes .target-width))
-          (ap length (lanes-are row row-is) ∙ length-tabulate (lanesOf j work) (halfValues (j .plan .target .width)))
+          (ap length (lanes-are row row-is) ∙ length-tabulate (outOf j work) (halfValues (lanesOf (j .plan)) (j .plan .target .width)))
 
       packed-is : restoredRow (j .plan .layout) (j .plan .target .width) row ≡ rowTaken j work
       unfolding restoredRow rowTaken
       packed-is =
-          tabulate-cong _ _ (rowBytes (j .plan .target .width))
+          tabulate-cong _ _ (rowBytes (lanesOf (j .plan)) (j .plan .target .width))
           (λ z l.
-          restored-cong (j .plan .layout) (λ x. getD row x 0) (lanesOf j work) (j .plan .target .width) z l
-          (λ x k. ap (λ (s : List ℕ). getD s x 0) (lanes-are row row-is) ∙ getD-tabulate (lanesOf j work) (halfValues (j .plan .target .width)) x k))
+          restored-cong (j .plan .layout) (λ x. getD row x 0) (outOf j work) (j .plan .target .width) z l
+          (λ x k. ap (λ (s : List ℕ). getD s x 0) (lanes-are row row-is) ∙ getD-tabulate (outOf j work) (halfValues (lanesOf (j .plan)) (j .plan .target .width)) x k))
 
       pub row-out : (last : List ℕ) → last ≡ restoredOut (j .plan .layout) (j .plan .target .width) row → last ≡ rowTaken j work
       unfolding restoredOut

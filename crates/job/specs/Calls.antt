@@ -2,42 +2,57 @@
 -- of the work values. Assumes nothing.
 use Prim.Native.Nat.{ℕ, zero, suc, _+_, _-_, _*_, _/_, _%_, min}
 use mathlib.Core.Bool.{Bool, cond, not, _||_, _&&_}
-use mathlib.Core.List.{List, _++_}
+use mathlib.Core.List.{List, [], _∷_, _++_}
 use lib.Dec.{eqb, leb, ltb}
 use lib.ListN.{length, drop, replicate}
 use Rattle.arithmetic.specs.Table.{tabulate}
 use Rattle.arithmetic.specs.Weight.{span}
-use Rattle.pixels.specs.declared.Dimensions.{Dimensions}
-use Rattle.pixels.specs.declared.Rect.{Rect}
 use Rattle.pixels.specs.declared.Refusal.the-variants.{PixelBufferMismatch, OutputLength, WorkLength, InvalidRecord, RowReady, AllAccepted, NoneReady}
-use Rattle.pixels.specs.Refusals.{refusedIf, firstOf}
-use Rattle.pixels.specs.Sizes.{rowBytes, halfValues, workValues, sizesNumber}
-use Rattle.pixels.specs.Lanes.{matted, restoredPlace}
-use Rattle.pixels.specs.Picture.{hasAlpha, windowOf, pictureRow}
-use Rattle.schedule.specs.Schedule.{used}
+use Rattle.pixels.specs.Refusals.{Cause, cause, first, otherLength, fewWork}
+use Rattle.pixels.specs.Sizes.{rowBytes, halfValues, workValues, sizesCauses}
+use Rattle.pixels_layout.specs.Lanes.{matted, restoredPlace}
+use Rattle.pixels_alpha.specs.Alpha.{hasAlpha}
+use Rattle.pixels_crop.specs.Crop.{windowOf, pictureRow}
+use Rattle.rows_schedule.specs.Schedule.{used}
 use Rattle.rows.specs.Lanes.{rowValue}
-use Rattle.rows.specs.WorkRows.{rowIn, byteOut, rowLeft}
+use Rattle.rows.specs.WorkRows.{Scale, rowIn, byteOut, rowLeft}
 use Rattle.job.specs.declared.Plan.{Plan}
 use Rattle.job.specs.declared.Job.{Job}
-use Rattle.job.specs.Record.{R, fresh, lawful}
+use Rattle.job.specs.Record.{lanesOf, R, lawful}
 
 -- "fewer than 8 × target width work values", w being lent
-abbrev pub shortWork : Plan → ℕ → ℕ
-shortWork p w = refusedIf (ltb w (workValues (p .target .width))) WorkLength
+abbrev pub shortWork : Plan → ℕ → Cause
+shortWork p w = fewWork w (workValues (lanesOf p) (p .target .width))
+
+-- "record breaks the rules"
+abbrev pub badRecord : Job → Cause
+badRecord j = cause (not (lawful j)) InvalidRecord
 
 -- ---- start: 1, 2, 5
 
+abbrev pub startCauses : Plan → ℕ → List Cause
+startCauses p w = sizesCauses (p .source) (p .crop) (p .target) ++ (shortWork p w ∷ [])
+
 unfoldable pub startNumber : Plan → ℕ → ℕ
-startNumber p w = firstOf (sizesNumber (p .source) (p .crop) (p .target)) (shortWork p w)
+startNumber p w = first (startCauses p w)
 
 -- "start clears both, and the rest is untouched"
 abbrev pub cleared : Plan → List ℕ → List ℕ
-cleared p work = replicate (workValues (p .target .width)) 0 ++ drop (workValues (p .target .width)) work
+cleared p work = replicate (workValues (lanesOf p) (p .target .width)) 0 ++ drop (workValues (lanesOf p) (p .target .width)) work
 
 unfoldable pub startWork : Plan → List ℕ → List ℕ
 startWork p work = cond (eqb (startNumber p (length work)) 0) (cleared p work) work
 
 -- ---- a row comes in
+
+-- what the job's rows are scaled by
+abbrev pub scaleBy : Plan → Scale
+scaleBy p = record {
+  span = span (p .crop .width) (p .target .width);
+  h = p .crop .height;
+  g = p .target .height;
+  w = halfValues (lanesOf p) (p .target .width);
+}
 
 -- source row s is inside the crop's height
 abbrev pub inCrop : Plan → ℕ → Bool
@@ -45,46 +60,59 @@ inCrop p s = leb (p .crop .y) s && ltb s (p .crop .y + p .crop .height)
 
 -- the values of a source row: its crop window, matted, each lane alone
 abbrev pub valuesOf : Plan → List ℕ → ℕ → ℕ
-valuesOf p row = rowValue (matted (p .layout) (windowOf row (p .crop .x) (p .crop .width))) (p .crop .width) (p .target .width)
+valuesOf p row =
+    rowValue (lanesOf p) (matted (p .layout) (windowOf (lanesOf p) row (p .crop .x) (p .crop .width))) (p .crop .width) (p .target .width)
 
 -- source row s, its bytes being row: "Rows outside the crop count and touch no work value"
 unfoldable pub rowAccepted : Plan → List ℕ → ℕ → List ℕ → List ℕ
 rowAccepted p row s work =
     cond (inCrop p s)
-    (rowIn (p .crop .height) (p .target .height) (halfValues (p .target .width)) (s - p .crop .y) (valuesOf p row) work)
+    (rowIn (scaleBy p) (s - p .crop .y) (valuesOf p row) work)
     work
 
 -- the first c of the rows lent, the first of them being source row k
 unfoldable pub fed : Plan → List ℕ → ℕ → ℕ → List ℕ → List ℕ
 fed p rows k zero work = work
-fed p rows k (suc c) work = rowAccepted p (pictureRow rows (p .source .width) c) (k + c) (fed p rows k c work)
+fed p rows k (suc c) work = rowAccepted p (pictureRow (lanesOf p) rows (p .source .width) c) (k + c) (fed p rows k c work)
 
 -- ---- offer: 6, 3, 5, 7, 8
 
 -- "offered bytes empty or no whole number of source rows"
 abbrev pub badRows : Plan → ℕ → Bool
-badRows p n = eqb n 0 || not (eqb (n % rowBytes (p .source .width)) 0)
+badRows p n = eqb n 0 || not (eqb (n % rowBytes (lanesOf p) (p .source .width)) 0)
 
 -- of n bytes lent and w work values
-unfoldable pub offerNumber : Job → ℕ → ℕ → ℕ
-offerNumber j n w =
-    firstOf (refusedIf (not (lawful j)) InvalidRecord)
-    (firstOf (refusedIf (badRows (j .plan) n) PixelBufferMismatch)
-    (firstOf (shortWork (j .plan) w)
-    (firstOf (refusedIf (ltb (j .taken) (R (j .plan) (j .accepted))) RowReady)
-    (refusedIf (leb (j .plan .source .height) (j .accepted)) AllAccepted))))
+abbrev pub offerCauses : Job → ℕ → ℕ → List Cause
+offerCauses j n w =
+    badRecord j
+    ∷ cause (badRows (j .plan) n) PixelBufferMismatch
+    ∷ shortWork (j .plan) w
+    ∷ cause (ltb (j .taken) (R (j .plan) (j .accepted))) RowReady
+    ∷ cause (leb (j .plan .source .height) (j .accepted)) AllAccepted
+    ∷ []
 
--- "It stops at the first row that makes an output row ready, at the last offered or at the source's last": one row more, as long as none is ready.
--- Of the rows' function R, the rows accepted k, the rows taken t and the most there may be.
+unfoldable pub offerNumber : Job → ℕ → ℕ → ℕ
+offerNumber j n w = first (offerCauses j n w)
+
+-- the least number from c up, among n of them, for which the test is true; the one after them where there is none
+unfoldable pub least : (ℕ → Bool) → ℕ → ℕ → ℕ
+least test c zero = c
+least test c (suc n) = cond (test c) c (least test (suc c) n)
+
+-- "It stops at the first row that makes an output row ready, at the last offered or at the source's last": the smaller of the most rows there may be and
+-- "the least c from 1 up for which R(accepted before it + c) is above taken". Of the rows' function R, the rows accepted k and the rows taken t.
 unfoldable pub counted : (ℕ → ℕ) → ℕ → ℕ → ℕ → ℕ
-counted r k t zero = 0
-counted r k t (suc n) = cond (ltb t (r (k + counted r k t n))) (counted r k t n) (suc (counted r k t n))
+counted r k t most = min most (least (λ c. ltb t (r (k + c))) 1 most)
 
 abbrev pub lentRows : Plan → ℕ → ℕ
-lentRows p n = n / rowBytes (p .source .width)
+lentRows p n = n / rowBytes (lanesOf p) (p .source .width)
+
+-- the rows lent or those that the source has left, whichever are fewer
+abbrev pub mostRows : Job → ℕ → ℕ
+mostRows j n = min (lentRows (j .plan) n) (j .plan .source .height - j .accepted)
 
 abbrev pub count : Job → ℕ → ℕ
-count j n = counted (R (j .plan)) (j .accepted) (j .taken) (min (lentRows (j .plan) n) (j .plan .source .height - j .accepted))
+count j n = counted (R (j .plan)) (j .accepted) (j .taken) (mostRows j n)
 
 -- the record with c rows more
 abbrev pub moreAccepted : Job → ℕ → Job
@@ -105,12 +133,16 @@ offerWork j rows work =
 -- ---- take: 6, 4, 5, 9
 
 -- of n bytes of output and w work values
+abbrev pub takeCauses : Job → ℕ → ℕ → List Cause
+takeCauses j n w =
+    badRecord j
+    ∷ otherLength n (rowBytes (lanesOf (j .plan)) (j .plan .target .width)) OutputLength
+    ∷ shortWork (j .plan) w
+    ∷ cause (leb (R (j .plan) (j .accepted)) (j .taken)) NoneReady
+    ∷ []
+
 unfoldable pub takeNumber : Job → ℕ → ℕ → ℕ
-takeNumber j n w =
-    firstOf (refusedIf (not (lawful j)) InvalidRecord)
-    (firstOf (refusedIf (not (eqb n (rowBytes (j .plan .target .width)))) OutputLength)
-    (firstOf (shortWork (j .plan) w)
-    (refusedIf (leb (R (j .plan) (j .accepted)) (j .taken)) NoneReady)))
+takeNumber j n w = first (takeCauses j n w)
 
 -- u, the crop rows used
 abbrev pub usedBy : Job → ℕ
@@ -120,16 +152,11 @@ usedBy j = used (j .plan .crop .y) (j .plan .crop .height) (j .accepted)
 unfoldable pub rowTaken : Job → List ℕ → List ℕ
 rowTaken j work =
     let p : Plan = j .plan in
-    tabulate
-    (restoredPlace (p .layout)
-    (byteOut (span (p .crop .width) (p .target .width)) (p .crop .height) (p .target .height) (halfValues (p .target .width)) (usedBy j) (j .taken) work))
-    (rowBytes (p .target .width))
+    tabulate (restoredPlace (p .layout) (byteOut (scaleBy p) (usedBy j) (j .taken) work)) (rowBytes (lanesOf p) (p .target .width))
 
 -- the work rows afterwards
 unfoldable pub workTaken : Job → List ℕ → List ℕ
-workTaken j work =
-    let p : Plan = j .plan in
-    rowLeft (span (p .crop .width) (p .target .width)) (p .crop .height) (p .target .height) (halfValues (p .target .width)) (usedBy j) (j .taken) work
+workTaken j work = rowLeft (scaleBy (j .plan)) (usedBy j) (j .taken) work
 
 -- the record with one row more taken, row being its bytes
 abbrev pub moreTaken : Job → List ℕ → Job

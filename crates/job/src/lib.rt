@@ -1,31 +1,32 @@
 // The job (document 01, "The job"; the Rust: Rescaler and rescale_plane of geometry.rs): a record by value that every call takes and hands back.
 // The caller lends the rows, the work values and the output row. Fields are public: a record that meets the rules counts, whoever filled it.
-use pictures::window;
 use pixels::Checked;
 use pixels::Dimensions;
-use pixels::PixelLayout;
+use pixels::Flagged;
+use pixels::PIXEL_LANES;
 use pixels::Rect;
 use pixels::Refusal;
 use pixels::check_sizes;
-use rows::Restored;
-use rows::add_halves;
-use rows::import_row;
-use rows_out::restore_row;
-use rows_out::scale_row;
-use schedule::rows_by;
-use schedule::used_rows;
+use pixels_crop::window;
+use pixels_layout::PixelLayout;
+use rows_adding::put_row;
+use rows_restoring::restore_row;
+use rows_scaling::scale_row;
+use rows_schedule::counts_fit;
+use rows_schedule::rows_by;
+use rows_schedule::used_rows;
 ghost use mathlib.Core.Path.{_≡_};
-ghost use mathlib.Core.Bool.{cond, _||_};
+ghost use mathlib.Core.Bool.{_||_};
 ghost use mathlib.Core.List.{_++_};
-ghost use Prim.Native.Nat.{_-_, _≤_, min};
-ghost use lib.Dec.{leb};
+ghost use Prim.Native.Nat.{_≤_};
+ghost use lib.Dec.{ltb};
 ghost use lib.ListN.{length, drop, replicate};
-ghost use Rattle.pixels.specs.Sizes.{rowBytes, halfValues, workValues, Fits};
-ghost use Rattle.rows.specs.WorkRows.{halfOf};
-ghost use Rattle.rows.specs.Restoring.{restoredFlag};
+ghost use Rattle.pixels.specs.Refusals.{checkedNumber, flaggedFlag};
+ghost use Rattle.pixels.specs.Sizes.{rowBytes, workValues};
 ghost use Rattle.job.specs.Answers.{startedNumber, startedJob, offeredNumber, offeredRows, offeredJob, takenNumber, takenJob};
-ghost use Rattle.job.specs.Record.{R, planOf, fresh, lawful, readyOf, Rules};
-ghost use Rattle.job.specs.Calls.{startNumber, startWork, lentRows, rowAccepted, fed, count, offerNumber, offerRows, offerJob, offerWork, takeNumber, takeJob, takeOut, takeWork};
+ghost use Rattle.job.specs.Record.{lanesOf, R, planOf, fresh, lawful, readyOf, Rules};
+ghost use Rattle.job.specs.Inner.{RowAsks};
+ghost use Rattle.job.specs.Calls.{startNumber, startWork, mostRows, rowAccepted, fed, count, offerNumber, offerRows, offerJob, offerWork, takeNumber, moreTaken, rowTaken, workTaken, takeJob, takeOut, takeWork};
 
 // What does not change in a job.
 pub struct Plan {
@@ -63,28 +64,33 @@ pub enum Taken {
 
 // ---- numbers
 
-// R(k)
+// The bytes of a row of `width` pixels, which are also the values of a half: the one place that knows a job's lanes.
+fn row_bytes(p: Plan, width: u32) -> usize
+    ensures { λ r. ⌜ r ≡ rowBytes (lanesOf p) width ⌝ }
+{
+    PIXEL_LANES * width as usize
+}
+
+// Fewer than two halves of work values.
+fn short_work(p: Plan, n: usize) -> bool
+    ensures { λ r. ⌜ r ≡ ltb n (workValues (lanesOf p) (p .target .width)) ⌝ }
+{
+    n < 2 * row_bytes(p, p.target.width)
+}
+
+// R(k). A row is ready while it is above the rows taken: the Rust's Rescaler::has_pending_output, there by an accumulator.
 fn made(p: Plan, accepted: u32) -> u64
     ensures { λ r. ⌜ r ≡ R p accepted ⌝ }
 {
     rows_by(p.crop.y, p.crop.height, p.target.height, accepted)
 }
 
-fn less_one(k: u32) -> u32
-    ensures { λ r. ⌜ r ≡ k - 1 ⌝ }
-{
-    if k == 0 {
-        return 0;
-    }
-    k - 1
-}
-
 // The rows lent or those that the source has left, whichever are fewer; n is the number of bytes lent.
 fn most_rows(j: Job, n: usize) -> u32
     requires { ⌜ Rules j ⌝ }
-    ensures { λ r. ⌜ r ≡ min (lentRows (j .plan) n) (j .plan .source .height - j .accepted) ⌝ }
+    ensures { λ r. ⌜ r ≡ mostRows j n ⌝ }
 {
-    let lent = n / (4 * j.plan.source.width as usize);
+    let lent = n / row_bytes(j.plan, j.plan.source.width);
     let left = j.plan.source.height - j.accepted;
     if lent < left as usize {
         return lent as u32;
@@ -92,25 +98,73 @@ fn most_rows(j: Job, n: usize) -> u32
     left
 }
 
-// ---- a row comes in
+// ---- the tests of each call, in their order
 
-// Where in the work rows the values of crop row c go.
-fn half_for(p: Plan, c: u32) -> usize
-    ensures { λ r. ⌜ r ≡ cond (leb (p .target .height) (p .crop .height)) (halfValues (p .target .width)) (halfOf (halfValues (p .target .width)) c) ⌝ }
+fn check_start(p: Plan, work: usize) -> Checked
+    ensures { λ r. ⌜ checkedNumber r ≡ startNumber p work ⌝ }
 {
-    let w = 4 * p.target.width as usize;
-    if p.target.height <= p.crop.height {
-        return w;
+    let checked = check_sizes(p.source, p.crop, p.target);
+    match checked {
+        Checked::Refused(why) => {
+            return Checked::Refused(why);
+        }
+        Checked::Fit => {}
     }
-    if c % 2 == 0 {
-        return w;
+    if short_work(p, work) {
+        return Checked::Refused(Refusal::WorkLength);
     }
-    0
+    Checked::Fit
 }
 
-// Source row s. Its crop window is a part of the row as lent; the layer below refuses none of these calls.
+// Of the bytes lent and the work values.
+fn check_offer(j: Job, bytes: usize, work: usize) -> Checked
+    ensures { λ r. ⌜ checkedNumber r ≡ offerNumber j bytes work ⌝ }
+{
+    if !j.check() {
+        return Checked::Refused(Refusal::InvalidRecord);
+    }
+    if bytes == 0 {
+        return Checked::Refused(Refusal::PixelBufferMismatch);
+    }
+    if bytes % row_bytes(j.plan, j.plan.source.width) != 0 {
+        return Checked::Refused(Refusal::PixelBufferMismatch);
+    }
+    if short_work(j.plan, work) {
+        return Checked::Refused(Refusal::WorkLength);
+    }
+    if (j.taken as u64) < made(j.plan, j.accepted) {
+        return Checked::Refused(Refusal::RowReady);
+    }
+    if j.plan.source.height <= j.accepted {
+        return Checked::Refused(Refusal::AllAccepted);
+    }
+    Checked::Fit
+}
+
+// Of the bytes of output and the work values.
+fn check_take(j: Job, bytes: usize, work: usize) -> Checked
+    ensures { λ r. ⌜ checkedNumber r ≡ takeNumber j bytes work ⌝ }
+{
+    if !j.check() {
+        return Checked::Refused(Refusal::InvalidRecord);
+    }
+    if bytes != row_bytes(j.plan, j.plan.target.width) {
+        return Checked::Refused(Refusal::OutputLength);
+    }
+    if short_work(j.plan, work) {
+        return Checked::Refused(Refusal::WorkLength);
+    }
+    if made(j.plan, j.accepted) <= j.taken as u64 {
+        return Checked::Refused(Refusal::NoneReady);
+    }
+    Checked::Fit
+}
+
+// ---- a row comes in
+
+// Source row s. The Rust: a turn of Rescaler::import. Its crop window is a part of the row as lent; the layer below does not refuse it.
 fn row_in(p: Plan, row: &[u8], s: u32, work: &mut [u32])
-    requires { ⌜ Fits (p .source) (p .crop) (p .target) × (length (now row) ≡ rowBytes (p .source .width)) × (workValues (p .target .width) ≤ length (now work)) ⌝ }
+    requires { ⌜ RowAsks p (now row) (now work) ⌝ }
     ensures { λ _. ⌜ now (work .exit) ≡ rowAccepted p (now (row .entry)) s (now (work .entry)) ⌝ }
 {
     if s < p.crop.y {
@@ -120,17 +174,16 @@ fn row_in(p: Plan, row: &[u8], s: u32, work: &mut [u32])
     if p.crop.height <= c {
         return;
     }
-    let at = half_for(p, c);
     let part = window(row, p.crop.x, p.crop.width);
+    let crop = Dimensions {
+        width: p.crop.width,
+        height: p.crop.height,
+    };
     let layout = p.layout;
-    import_row(layout, p.crop.width, p.target.width, part, &mut work[at..]);
-    if p.crop.height < p.target.height {
-        return;
-    }
-    add_halves(p.target.width, work);
+    put_row(layout, crop, p.target, c, part, work);
 }
 
-// The rows of an offer that passed its tests, one after another: "stops at the first row that makes an output row ready, at the last offered or at
+// The rows of an offer that passed its tests, one after another (the Rust: Rescaler::import): "stops at the first row that makes an output row ready, at the last offered or at
 // the source's last".
 fn accept(j: Job, rows: &[u8], work: &mut [u32]) -> u32
     requires { ⌜ offerNumber j (length (now rows)) (length (now work)) ≡ 0 ⌝ }
@@ -138,7 +191,7 @@ fn accept(j: Job, rows: &[u8], work: &mut [u32]) -> u32
     ensures work { λ _. ⌜ now (work .exit) ≡ fed (j .plan) (now (rows .entry)) (j .accepted) (count j (length (now (rows .entry)))) (now (work .entry)) ⌝ }
 {
     let most = most_rows(j, rows.len());
-    let stride = 4 * j.plan.source.width as usize;
+    let stride = row_bytes(j.plan, j.plan.source.width);
     let mut i: u32 = 0;
     let n = loop {
         let at = stride * i as usize;
@@ -157,16 +210,35 @@ fn accept(j: Job, rows: &[u8], work: &mut [u32]) -> u32
 // ---- a row goes out
 
 // The flag so far, joined by that of the row just restored.
-fn flag_after(flag: bool, restored: Restored) -> bool
-    ensures { λ r. ⌜ r ≡ (flag || restoredFlag restored) ⌝ }
+fn flag_after(flag: bool, restored: Flagged) -> bool
+    ensures { λ r. ⌜ r ≡ (flag || flaggedFlag restored) ⌝ }
 {
     if flag {
         return true;
     }
     match restored {
-        Restored::Flag(f) => f,
-        Restored::Refused(_) => false,
+        Flagged::Flag(f) => f,
+        Flagged::Refused(_) => false,
     }
+}
+
+// The row of a take that passed its tests; returns the record's next flag. The Rust: Rescaler::export and the end of resize. The layer below refuses neither call.
+fn row_out(j: Job, out: &mut [u8], work: &mut [u32]) -> bool
+    requires { ⌜ takeNumber j (length (now out)) (length (now work)) ≡ 0 ⌝ }
+    ensures flag { λ r. ⌜ r ≡ moreTaken j (rowTaken j (now (work .entry))) .flag ⌝ }
+    ensures out { λ _. ⌜ now (out .exit) ≡ rowTaken j (now (work .entry)) ⌝ }
+    ensures work { λ _. ⌜ now (work .exit) ≡ workTaken j (now (work .entry)) ⌝ }
+{
+    let p = j.plan;
+    let used = used_rows(p.crop.y, p.crop.height, j.accepted);
+    let crop = Dimensions {
+        width: p.crop.width,
+        height: p.crop.height,
+    };
+    scale_row(crop, p.target, used, j.taken, out, work);
+    let layout = p.layout;
+    let restored = restore_row(layout, p.target.width, out);
+    flag_after(j.flag, restored)
 }
 
 // ---- the calls
@@ -195,28 +267,23 @@ pub fn start(
     ensures job { λ r. ⌜ startedJob (fresh (planOf source layout crop target)) r ≡ fresh (planOf source layout crop target) ⌝ }
     ensures work { λ _. ⌜ now (work .exit) ≡ startWork (planOf source layout crop target) (now (work .entry)) ⌝ }
 {
-    let checked = check_sizes(source, crop, target);
+    let plan = Plan {
+        source: source,
+        layout: layout,
+        crop: crop,
+        target: target,
+    };
+    let checked = check_start(plan, work.len());
     match checked {
         Checked::Refused(why) => {
             return Started::Refused { why: why };
         }
         Checked::Fit => {}
     }
-    let n = 8 * target.width as usize;
-    if work.len() < n {
-        return Started::Refused {
-            why: Refusal::WorkLength,
-        };
-    }
-    clear(work, n);
+    clear(work, 2 * row_bytes(plan, target.width));
     Started::Fresh {
         job: Job {
-            plan: Plan {
-                source: source,
-                layout: layout,
-                crop: crop,
-                target: target,
-            },
+            plan: plan,
             accepted: 0,
             taken: 0,
             flag: false,
@@ -225,7 +292,7 @@ pub fn start(
 }
 
 impl Job {
-    // The record rules. Rules out: a flag before the first row taken; a count above what the rows accepted make.
+    // The record rules. Rules out: a flag before the first row taken; the rows accepted held to the crop's height.
     pub fn check(self) -> bool
         ensures { λ r. ⌜ r ≡ lawful self ⌝ }
     {
@@ -237,13 +304,14 @@ impl Job {
             }
             Checked::Fit => {}
         }
-        if p.source.height < self.accepted {
-            return false;
-        }
-        if (self.taken as u64) < made(p, less_one(self.accepted)) {
-            return false;
-        }
-        if made(p, self.accepted) < self.taken as u64 {
+        if !counts_fit(
+            p.crop.y,
+            p.crop.height,
+            p.target.height,
+            p.source.height,
+            self.accepted,
+            self.taken,
+        ) {
             return false;
         }
         if self.taken != 0 {
@@ -271,45 +339,18 @@ impl Job {
         ensures job { λ r. ⌜ offeredJob r ≡ offerJob self (length (now (rows .entry))) (length (now (work .entry))) ⌝ }
         ensures work { λ _. ⌜ now (work .exit) ≡ offerWork self (now (rows .entry)) (now (work .entry)) ⌝ }
     {
-        if !self.check() {
-            return Offered::Refused {
-                why: Refusal::InvalidRecord,
-                job: self,
-            };
-        }
-        if rows.len() == 0 {
-            return Offered::Refused {
-                why: Refusal::PixelBufferMismatch,
-                job: self,
-            };
-        }
-        if rows.len() % (4 * self.plan.source.width as usize) != 0 {
-            return Offered::Refused {
-                why: Refusal::PixelBufferMismatch,
-                job: self,
-            };
-        }
-        if work.len() < 8 * self.plan.target.width as usize {
-            return Offered::Refused {
-                why: Refusal::WorkLength,
-                job: self,
-            };
-        }
-        let k = self.accepted;
-        if (self.taken as u64) < made(self.plan, k) {
-            return Offered::Refused {
-                why: Refusal::RowReady,
-                job: self,
-            };
-        }
-        if self.plan.source.height <= k {
-            return Offered::Refused {
-                why: Refusal::AllAccepted,
-                job: self,
-            };
+        let checked = check_offer(self, rows.len(), work.len());
+        match checked {
+            Checked::Refused(why) => {
+                return Offered::Refused {
+                    why: why,
+                    job: self,
+                };
+            }
+            Checked::Fit => {}
         }
         let n = accept(self, rows, work);
-        self.accepted = k + n;
+        self.accepted = self.accepted + n;
         Offered::Accepted { rows: n, job: self }
     }
 
@@ -321,42 +362,18 @@ impl Job {
         ensures out { λ _. ⌜ now (out .exit) ≡ takeOut self (now (out .entry)) (now (work .entry)) ⌝ }
         ensures work { λ _. ⌜ now (work .exit) ≡ takeWork self (length (now (out .entry))) (now (work .entry)) ⌝ }
     {
-        if !self.check() {
-            return Taken::Refused {
-                why: Refusal::InvalidRecord,
-                job: self,
-            };
+        let checked = check_take(self, out.len(), work.len());
+        match checked {
+            Checked::Refused(why) => {
+                return Taken::Refused {
+                    why: why,
+                    job: self,
+                };
+            }
+            Checked::Fit => {}
         }
-        let p = self.plan;
-        if out.len() != 4 * p.target.width as usize {
-            return Taken::Refused {
-                why: Refusal::OutputLength,
-                job: self,
-            };
-        }
-        if work.len() < 8 * p.target.width as usize {
-            return Taken::Refused {
-                why: Refusal::WorkLength,
-                job: self,
-            };
-        }
-        let t = self.taken;
-        if made(p, self.accepted) <= t as u64 {
-            return Taken::Refused {
-                why: Refusal::NoneReady,
-                job: self,
-            };
-        }
-        let u = used_rows(p.crop.y, p.crop.height, self.accepted);
-        let crop = Dimensions {
-            width: p.crop.width,
-            height: p.crop.height,
-        };
-        scale_row(crop, p.target, u, t, out, work);
-        let layout = p.layout;
-        let restored = restore_row(layout, p.target.width, out);
-        let flag = flag_after(self.flag, restored);
-        self.taken = t + 1;
+        let flag = row_out(self, out, work);
+        self.taken = self.taken + 1;
         self.flag = flag;
         Taken::Wrote { job: self }
     }

@@ -1,58 +1,68 @@
--- Causes in their order: none applies exactly if each does not, and the first that applies gives the number. Assumes nothing.
-use Prim.Native.Nat.{ℕ}
+-- Causes in their order: those before it pass, it applies, so the number is its; none applies exactly if the number is 0. One law for every list. Assumes nothing.
+use Prim.Native.Nat.{ℕ, zero, suc}
 use mathlib.Core.Path.{_≡_, refl, sym, _∙_}
-use mathlib.Core.Bool.{Bool, true, false, not, cond, _&&_, _||_, true≢false}
-use mathlib.Core.Logic.{_⊎_, inl, inr}
+use mathlib.Core.Bool.{Bool, true, false, cond}
+use mathlib.Core.List.{List, [], _∷_, _++_}
 use native.Mathlib.Omega.{arith}
-use lib.Dec.{eqb}
-use borrow.Author.Tests.{eq-eqb, ne-eqb, eqb-true, eqb-false}
 use Rattle.pixels.specs.declared.Refusal.{Refusal}
-use Rattle.pixels.specs.Refusals.{number, refusedIf, firstOf}
+use Rattle.pixels.specs.Refusals.{number, Cause, first}
 use Rattle.pixels.proofs.Numbers.{number-pos}
 
--- a test comes out one way or the other
-pub test : (b : Bool) → (b ≡ true) ⊎ (b ≡ false)
-test true = inl refl
-test false = inr refl
+-- the first i causes pass
+abbrev pub Before : List Cause → ℕ → Type 0
+Before cs zero = Unit {0}
+Before [] (suc i) = Unit {0}
+Before (c ∷ cs) (suc i) = (c .applies ≡ false) × Before cs i
 
--- ---- truth by parts
-pub both-true : (a b : Bool) → (a && b) ≡ true → (a ≡ true) × (b ≡ true)
-both-true true b e = (refl, e)
-both-true false b e = absurd (true≢false (sym e))
+-- cause i applies
+abbrev pub Applies : List Cause → ℕ → Type 0
+Applies [] i = ⊥
+Applies (c ∷ cs) zero = c .applies ≡ true
+Applies (c ∷ cs) (suc i) = Applies cs i
 
-pub neither-true : (a b : Bool) → (a || b) ≡ false → (a ≡ false) × (b ≡ false)
-neither-true false b e = (refl, e)
-neither-true true b e = absurd (true≢false e)
+-- its number
+abbrev pub numberAt : List Cause → ℕ → ℕ
+numberAt [] i = 0
+numberAt (c ∷ cs) zero = number (c .why)
+numberAt (c ∷ cs) (suc i) = numberAt cs i
 
-pub not-true : (b : Bool) → not b ≡ true → b ≡ false
-not-true false e = refl
-not-true true e = absurd (true≢false (sym e))
+-- all pass
+abbrev pub Pass : List Cause → Type 0
+Pass [] = Unit {0}
+Pass (c ∷ cs) = (c .applies ≡ false) × Pass cs
 
-pub not-false : (b : Bool) → not b ≡ false → b ≡ true
-not-false true e = refl
-not-false false e = absurd (true≢false e)
+skip : (c : Cause) (cs : List Cause) → c .applies ≡ false → first (c ∷ cs) ≡ first cs
+skip c cs e = simp e
 
--- ---- one cause
-pub refused-yes : (b : Bool) (why : Refusal) → b ≡ true → refusedIf b why ≡ number why
-refused-yes b why e = simp e
+pub first-at : (cs : List Cause) (i : ℕ) → Before cs i → Applies cs i → first cs ≡ numberAt cs i
+first-at [] i b a = absurd a
+first-at (c ∷ cs) zero b a = simp a
+first-at (c ∷ cs) (suc i) b a = skip c cs (b .0) ∙ first-at cs i (b .1) a
 
-pub refused-no : (b : Bool) (why : Refusal) → b ≡ false → refusedIf b why ≡ 0
-refused-no b why e = simp e
+pub first-none : (cs : List Cause) → Pass cs → first cs ≡ 0
+first-none [] p = refl
+first-none (c ∷ cs) p = skip c cs (p .0) ∙ first-none cs (p .1)
 
-pub refused-zero : (b : Bool) (why : Refusal) → refusedIf b why ≡ 0 → b ≡ false
-refused-zero false why e = refl
-refused-zero true why e = absurd (omega (arith, number-pos why))
+passes : (b : Bool) (why : Refusal) (n : ℕ) → cond b (number why) n ≡ 0 → (b ≡ false) × (n ≡ 0)
+passes false why n e = (refl, e)
+passes true why n e = absurd (omega (arith, number-pos why))
 
--- ---- two causes
-pub first-zero : (a b : ℕ) → firstOf a b ≡ 0 → (a ≡ 0) × (b ≡ 0)
-first-zero a b e = by (test (eqb a 0))
+pub none-applies : (cs : List Cause) → first cs ≡ 0 → Pass cs
+none-applies [] e = tt
+none-applies (c ∷ cs) e = let p = passes (c .applies) (c .why) (first cs) e in (p .0, none-applies cs (p .1))
+
+-- ---- a list that goes on
+pub first-past : (cs ds : List Cause) → first cs ≡ 0 → first (cs ++ ds) ≡ first ds
+first-past [] ds e = refl
+first-past (c ∷ cs) ds e =
+    let p = passes (c .applies) (c .why) (first cs) e in
+    skip c (cs ++ ds) (p .0) ∙ first-past cs ds (p .1)
+
+pub first-stays : (why : Refusal) (cs ds : List Cause) → first cs ≡ number why → first (cs ++ ds) ≡ number why
+first-stays why [] ds e = absurd (omega (arith, number-pos why))
+first-stays why (c ∷ cs) ds e = go (c .applies) (first-stays why cs ds) e
   where
-    by : (eqb a 0 ≡ true) ⊎ (eqb a 0 ≡ false) → (a ≡ 0) × (b ≡ 0)
-    by (inl h) = (eqb-true a 0 h, (let q : firstOf a b ≡ b = simp h in sym q ∙ e))
-    by (inr h) = absurd (let q : firstOf a b ≡ a = simp h in omega (arith, eqb-false a 0 h, q))
-
-pub first-passes : (a b : ℕ) → a ≡ 0 → firstOf a b ≡ b
-first-passes a b e = simp (eq-eqb a 0 e)
-
-pub first-stops : (why : Refusal) (a b : ℕ) → a ≡ number why → firstOf a b ≡ number why
-first-stops why a b e = (let q : firstOf a b ≡ a = simp (ne-eqb a 0 (λ z. omega (arith, number-pos why))) in q) ∙ e
+    go : (b : Bool) → (first cs ≡ number why → first (cs ++ ds) ≡ number why)
+        → cond b (number (c .why)) (first cs) ≡ number why → cond b (number (c .why)) (first (cs ++ ds)) ≡ number why
+    go true rest h = h
+    go false rest h = rest h

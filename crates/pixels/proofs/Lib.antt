@@ -1,11 +1,4 @@
 pub mod Numbers
 pub mod Fitting
+pub mod Truths
 pub mod Causes
-pub mod Tabled
-pub mod Stretches
-pub mod Packing
-pub mod Flags
-pub mod Windows
-pub mod Planes
-pub mod Pictures
-pub mod Matted

@@ -1,18 +1,18 @@
--- Laws of the numbers of "Why a call is turned away": a number names its cause, none is 0, and the first of two is the first that applies. Assumes nothing.
+-- Laws of the numbers of "Why a call is turned away": a number names its cause, none is 0, and an answer is told by its number. Assumes nothing.
 use Prim.Native.Nat.{ℕ, zero, suc, _<_}
 use mathlib.Core.Path.{_≡_, refl, sym, ap, _∙_}
-use mathlib.Core.Bool.{Bool, true, false, not}
+use mathlib.Core.Bool.{Bool, false}
 use mathlib.Core.List.{List, [], _∷_}
 use native.Mathlib.Omega.{arith}
 use lib.Dec.{eqb, lit<}
-use borrow.Author.Tests.{eq-eqb, ne-eqb, eqb-true}
+use borrow.Author.Tests.{ne-eqb}
 use lib.ListN.{getD}
 use Rattle.pixels.specs.declared.Dimensions.{Dimensions}
 use Rattle.pixels.specs.declared.Refusal.{Refusal}
 use Rattle.pixels.specs.declared.Refusal.the-variants.{InvalidDimensions, CropOutOfBounds, PixelBufferMismatch, OutputLength, WorkLength, InvalidRecord, RowReady, AllAccepted, NoneReady}
 use Rattle.pixels.specs.declared.Checked.{Checked}
 use Rattle.pixels.specs.declared.Checked.the-variants.{Fit, Refused}
-use Rattle.pixels.specs.Refusals.{number, refusedIf, firstOf, checkedNumber, noSize, sizeIf, flagIf, bufferIf}
+use Rattle.pixels.specs.Refusals.{number, checkedNumber, noSize, sizeIf, flagIf, bufferIf}
 
 -- the cause of a number
 unfoldable named : ℕ → Refusal
@@ -45,18 +45,6 @@ number-pos RowReady = lit< tt
 number-pos AllAccepted = lit< tt
 number-pos NoneReady = lit< tt
 
--- a cause that applies hides those after it
-pub first-number : (why : Refusal) (b : ℕ) → firstOf (number why) b ≡ number why
-first-number InvalidDimensions b = refl
-first-number CropOutOfBounds b = refl
-first-number PixelBufferMismatch b = refl
-first-number OutputLength b = refl
-first-number WorkLength b = refl
-first-number InvalidRecord b = refl
-first-number RowReady b = refl
-first-number AllAccepted b = refl
-first-number NoneReady b = refl
-
 -- an answer is known by its number
 pub checked-is : (a b : Checked) → checkedNumber a ≡ checkedNumber b → a ≡ b
 checked-is Fit Fit e = refl
@@ -65,7 +53,7 @@ checked-is (Refused why) Fit e = absurd (omega (arith, number-pos why))
 checked-is (Refused a) (Refused b) e = ap Refused (number-injective a b e)
 
 -- ---- number and values of an answer, told by what was called
-not-zero : (why : Refusal) (n : ℕ) → n ≡ number why → eqb n 0 ≡ false
+pub not-zero : (why : Refusal) (n : ℕ) → n ≡ number why → eqb n 0 ≡ false
 not-zero why n e = ne-eqb n 0 (λ z. omega (arith, number-pos why))
 
 pub sized-refused : (why : Refusal) (n : ℕ) (d : Dimensions) → n ≡ number why → (number why ≡ n) × (noSize ≡ sizeIf n d)
@@ -92,30 +80,3 @@ all-refused why n b w k e = (sym e, (simp (not-zero why n e), simp (not-zero why
 
 pub all-written : (n : ℕ) {flag : Bool} {out : List ℕ} (b : Bool) (w k : List ℕ) → n ≡ 0 → flag ≡ b → out ≡ w → (0 ≡ n) × ((flag ≡ flagIf n b) × (out ≡ bufferIf n w k))
 all-written n b w k e f g = (sym e, (simp e f, simp e g))
-
--- ---- causes in their order
-pub first-why : (why : Refusal) (a b : ℕ) → a ≡ number why → firstOf a b ≡ number why
-first-why why a b e = rw e (first-number why b)
-
-pub first-next : (a b : ℕ) → a ≡ 0 → firstOf a b ≡ b
-first-next a b e = simp e
-
-pub first-none : (a b : ℕ) → firstOf a b ≡ 0 → (a ≡ 0) × (b ≡ 0)
-first-none zero b e = (refl, e)
-first-none (suc a) b e =
-    let f : firstOf (suc a) b ≡ suc a = simp (ne-eqb (suc a) 0 (λ z. omega arith)) in
-    absurd (omega arith)
-
--- a length that is not the one asked for
-pub length-refused : (why : Refusal) (n m : ℕ) → (n ≡ m → ⊥) → refusedIf (not (eqb n m)) why ≡ number why
-length-refused why n m h = simp (ne-eqb n m h)
-
-pub length-passes : (why : Refusal) (n m : ℕ) → n ≡ m → refusedIf (not (eqb n m)) why ≡ 0
-length-passes why n m h = simp (eq-eqb n m h)
-
-pub length-same : (why : Refusal) (n m : ℕ) → refusedIf (not (eqb n m)) why ≡ 0 → n ≡ m
-length-same why n m e = eqb-true n m (go (eqb n m) e)
-  where
-    go : (b : Bool) → refusedIf (not b) why ≡ 0 → b ≡ true
-    go true e = refl
-    go false e = absurd (omega (arith, number-pos why))

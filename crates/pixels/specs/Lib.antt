@@ -1,5 +1,2 @@
 pub mod Refusals
 pub mod Sizes
-pub mod Layout
-pub mod Lanes
-pub mod Picture

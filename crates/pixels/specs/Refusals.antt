@@ -1,8 +1,8 @@
 -- Why a call is turned away: document 01's table, the number of each cause, and the number and the values of each answer. Assumes nothing.
 use Prim.Native.Nat.{ℕ}
-use mathlib.Core.Bool.{Bool, false, cond}
-use mathlib.Core.List.{List}
-use lib.Dec.{eqb}
+use mathlib.Core.Bool.{Bool, false, cond, not}
+use mathlib.Core.List.{List, [], _∷_}
+use lib.Dec.{eqb, ltb}
 use Rattle.pixels.specs.declared.Dimensions.{Dimensions}
 use Rattle.pixels.specs.declared.Refusal.{Refusal}
 use Rattle.pixels.specs.declared.Refusal.the-variants.{InvalidDimensions, CropOutOfBounds, PixelBufferMismatch, OutputLength, WorkLength, InvalidRecord, RowReady, AllAccepted, NoneReady}
@@ -25,13 +25,28 @@ number RowReady = 7
 number AllAccepted = 8
 number NoneReady = 9
 
--- the number of a cause that applies if b, and 0 if not
-abbrev pub refusedIf : Bool → Refusal → ℕ
-refusedIf b why = cond b (number why) 0
+-- ---- causes in their order
 
--- of two causes in their order, the one that applies first; 0 where neither does
-abbrev pub firstOf : ℕ → ℕ → ℕ
-firstOf a b = cond (eqb a 0) b a
+-- a cause of the table, and whether it applies
+pub record Cause : Type 0 where
+  pub applies : Bool
+  pub why : Refusal
+
+abbrev pub cause : Bool → Refusal → Cause
+cause applies why = record { applies = applies; why = why }
+
+-- the number of the first that applies, 0 where none does
+abbrev pub first : List Cause → ℕ
+first [] = 0
+first (c ∷ cs) = cond (c .applies) (number (c .why)) (first cs)
+
+-- a length other than the one asked for
+abbrev pub otherLength : ℕ → ℕ → Refusal → Cause
+otherLength n asked why = cause (not (eqb n asked)) why
+
+-- fewer work values than are needed
+abbrev pub fewWork : ℕ → ℕ → Cause
+fewWork n needed = cause (ltb n needed) WorkLength
 
 -- ---- answers: the number is 0 where the call was accepted
 abbrev pub checkedNumber : Checked → ℕ

@@ -1,35 +1,38 @@
 -- Sizes and lengths, and the numbers 1 and 2 of document 01's table ("Why a call is turned away"). Assumes nothing.
 use Prim.Native.Nat.{ℕ, _+_, _*_, _≤_}
 use mathlib.Core.Bool.{Bool, cond, _||_}
+use mathlib.Core.List.{List, [], _∷_}
 use lib.Dec.{eqb, ltb}
 use Rattle.arithmetic.specs.Quotient.{ceil}
 use Rattle.pixels.specs.declared.Dimensions.{Dimensions}
 use Rattle.pixels.specs.declared.Rect.{Rect}
 use Rattle.pixels.specs.declared.Refusal.the-variants.{InvalidDimensions, CropOutOfBounds}
-use Rattle.pixels.specs.Refusals.{refusedIf, firstOf}
+use Rattle.pixels.specs.Refusals.{Cause, cause, first}
 
 -- the largest side
 abbrev pub maxSide : ℕ
 maxSide = 16384
 
--- the bytes of a pixel, one for each lane
-abbrev pub lanes : ℕ
-lanes = 4
+-- the lanes of a pixel: blue, green, red and alpha, a byte each
+abbrev pub pixelLanes : ℕ
+pixelLanes = 4
+
+-- ---- lengths, of rows that have `lanes` lanes
 
 -- the bytes of a row of w pixels
-abbrev pub rowBytes : ℕ → ℕ
-rowBytes w = lanes * w
+abbrev pub rowBytes : ℕ → ℕ → ℕ
+rowBytes lanes w = lanes * w
 
 -- the bytes of w by h pixels: h rows
-abbrev pub pictureBytes : ℕ → ℕ → ℕ
-pictureBytes w h = rowBytes w * h
+abbrev pub pictureBytes : ℕ → ℕ → ℕ → ℕ
+pictureBytes lanes w h = rowBytes lanes w * h
 
--- "Work rows are two halves of 4 × m values each"
-abbrev pub halfValues : ℕ → ℕ
-halfValues m = lanes * m
+-- "Work rows are two halves of 4 × m values each", one for each lane
+abbrev pub halfValues : ℕ → ℕ → ℕ
+halfValues lanes m = lanes * m
 
-abbrev pub workValues : ℕ → ℕ
-workValues m = 2 * halfValues m
+abbrev pub workValues : ℕ → ℕ → ℕ
+workValues lanes m = 2 * halfValues lanes m
 
 -- "a source or target side is 0 or above 16,384"
 unfoldable pub badSide : ℕ → Bool
@@ -46,15 +49,29 @@ emptyCrop crop = eqb (crop .width) 0 || eqb (crop .height) 0
 unfoldable pub cropBeyond : Rect → Dimensions → Bool
 cropBeyond crop size = ltb (size .width) (crop .x + crop .width) || ltb (size .height) (crop .y + crop .height)
 
--- number 1 of one size, 0 where it passes
-unfoldable pub sizeNumber : Dimensions → ℕ
-sizeNumber size = refusedIf (badSize size) InvalidDimensions
+-- ---- numbers 1 and 2
 
--- numbers 1 and 2 of a source, its crop and a target, 0 where they pass. A crop side above 16,384 is 2, since no source side is.
+-- 1 of one size
+abbrev pub wrongSize : Dimensions → Cause
+wrongSize size = cause (badSize size) InvalidDimensions
+
+unfoldable pub sizeNumber : Dimensions → ℕ
+sizeNumber size = first (wrongSize size ∷ [])
+
+-- 1 of a source, its crop and a target
+abbrev pub wrongSizes : Dimensions → Rect → Dimensions → Cause
+wrongSizes source crop target = cause (badSize source || badSize target || emptyCrop crop) InvalidDimensions
+
+-- 2. A crop side above 16,384 is 2, since no source side is.
+abbrev pub cropOutside : Rect → Dimensions → Cause
+cropOutside crop source = cause (cropBeyond crop source) CropOutOfBounds
+
+-- what every call that is lent a source, its crop and a target tests first
+abbrev pub sizesCauses : Dimensions → Rect → Dimensions → List Cause
+sizesCauses source crop target = wrongSizes source crop target ∷ cropOutside crop source ∷ []
+
 unfoldable pub sizesNumber : Dimensions → Rect → Dimensions → ℕ
-sizesNumber source crop target =
-    firstOf (refusedIf (badSize source || badSize target || emptyCrop crop) InvalidDimensions)
-    (refusedIf (cropBeyond crop source) CropOutOfBounds)
+sizesNumber source crop target = first (sizesCauses source crop target)
 
 -- what passing means: a side from 1 to 16,384; sizes of such sides, a crop that is not empty, its edges within the source
 pub record Side (side : ℕ) : Type 0 where
@@ -94,4 +111,4 @@ scaledSize source width height = sizeOf (scaledWidth source width height) (scale
 
 -- "both 0, or a side above 16,384, gives 1", of the source too; both 0 gives sides of 0
 unfoldable pub scaledNumber : Dimensions → ℕ → ℕ → ℕ
-scaledNumber source width height = firstOf (sizeNumber source) (sizeNumber (scaledSize source width height))
+scaledNumber source width height = first (wrongSize source ∷ wrongSize (scaledSize source width height) ∷ [])

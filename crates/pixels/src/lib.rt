@@ -1,13 +1,18 @@
-// Pixels: sizes, layouts and why a call is turned away (document 01, "Lanes", "Beside the job", "Why a call is turned away"; the Rust: image.rs and the
-// crop of geometry.rs). Every function answers for all arguments. Fields are public: a value counts, whoever filled it, and is tested where it is used.
+// Pixels: sizes and why a call is turned away (document 01, "Beside the job", "Why a call is turned away"; the Rust: Dimensions and Rect of image.rs and
+// geometry.rs). Every function answers for all arguments. Fields are public: a value counts, whoever filled it, and is tested where it is used.
+pub use sizes::bad_side;
 pub use sizes::bad_size;
 pub use sizes::check_sizes;
+pub use sizes::wrong_length;
 
-mod layout;
 mod sizes;
+mod table;
 
 // Largest side of a picture, in pixels (the Rust's name): a bitstream stores a side less one in 14 bits.
 pub const MAX_DIMENSION: u32 = 16384;
+
+// The lanes of a pixel, a byte each: blue, green, red, alpha.
+pub const PIXEL_LANES: usize = 4;
 
 pub struct Dimensions {
     pub width: u32,
@@ -20,13 +25,6 @@ pub struct Rect {
     pub y: u32,
     pub width: u32,
     pub height: u32,
-}
-
-// The order of a pixel's bytes.
-pub enum PixelLayout {
-    Rgba8,
-    Argb8,
-    Bgra8,
 }
 
 // Why a call is turned away, in the order of document 01's table; specs/Refusals.antt has the numbers.
@@ -67,12 +65,4 @@ pub enum Sized {
 pub enum Flagged {
     Flag(bool),
     Refused(Refusal),
-}
-
-// Where a layout has the scaler's lanes: byte offsets within a pixel.
-pub struct Places {
-    pub b: usize,
-    pub g: usize,
-    pub r: usize,
-    pub a: usize,
 }

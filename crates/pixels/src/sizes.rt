@@ -2,15 +2,19 @@
 use crate::Checked;
 use crate::Dimensions;
 use crate::MAX_DIMENSION;
+use crate::PIXEL_LANES;
 use crate::Rect;
 use crate::Refusal;
 use crate::Sized;
 ghost use mathlib.Core.Path.{_≡_};
+ghost use mathlib.Core.Bool.{not};
 ghost use Prim.Native.Nat.{_*_, _^_, _≤_};
+ghost use lib.Dec.{eqb};
 ghost use Rattle.pixels.specs.Refusals.{checkedNumber, sizedNumber, sizedSize, sizeIf};
-ghost use Rattle.pixels.specs.Sizes.{maxSide, badSide, badSize, sizeOf, rectOf, sizeNumber, sizesNumber, derivedSide, scaledNumber, scaledSize};
+ghost use Rattle.pixels.specs.Sizes.{maxSide, pixelLanes, pictureBytes, badSide, badSize, sizeOf, rectOf, sizeNumber, sizesNumber, derivedSide, scaledNumber, scaledSize};
 
-fn bad_side(side: u64) -> bool
+// A side is 0 or above the limit. Rules out: a side of twice the limit passed; a side of 16,384 refused.
+pub fn bad_side(side: u64) -> bool
     ensures { λ r. ⌜ r ≡ badSide side ⌝ }
 {
     if side == 0 {
@@ -19,7 +23,7 @@ fn bad_side(side: u64) -> bool
     side > MAX_DIMENSION as u64
 }
 
-// A side is 0 or above the limit: number 1 of one size. Rules out: only the width tested; a side of 16,384 refused.
+// A side of the size is 0 or above the limit: number 1 of one size. Rules out: only the width tested; half of the width tested.
 pub fn bad_size(size: Dimensions) -> bool
     ensures { λ r. ⌜ r ≡ badSize size ⌝ }
 {
@@ -27,6 +31,16 @@ pub fn bad_size(size: Dimensions) -> bool
         return true;
     }
     bad_side(size.height as u64)
+}
+
+// Another number of bytes than those of a picture of the size. Rules out: three bytes to a pixel; a product that wraps.
+pub fn wrong_length(n: usize, size: Dimensions) -> bool
+    ensures { λ r. ⌜ r ≡ not (eqb n (pictureBytes pixelLanes (size .width) (size .height))) ⌝ }
+{
+    if n % PIXEL_LANES != 0 {
+        return true;
+    }
+    (n / PIXEL_LANES) as u64 != size.pixel_count()
 }
 
 // A side of a scaled size: as asked, or derived from the other side where it is 0.

@@ -9,13 +9,13 @@ use Rattle.job.specs.declared.Job.{Job}
 use Rattle.job.specs.declared.Started.{Started}
 use Rattle.job.specs.declared.Started.the-variants as started
 use Rattle.job.specs.Answers.{startedNumber, startedJob}
-use Rattle.job.specs.Record.{fresh}
+use Rattle.job.specs.Record.{lanesOf, fresh}
 use Rattle.job.specs.Calls.{startNumber}
 use Rattle.job.proofs.Views.{start-went}
 
 pub record RowsFit (j : Job) : Type 0 where
-  pub source : rowBytes (j .plan .source .width) ≤ 65536
-  pub target : rowBytes (j .plan .target .width) ≤ 65536
+  pub source : rowBytes (lanesOf (j .plan)) (j .plan .source .width) ≤ 65536
+  pub target : rowBytes (lanesOf (j .plan)) (j .plan .target .width) ≤ 65536
 
 pub rows-fit : (p : Plan) (n : ℕ) (r : Started) (j : Job) → startedNumber r ≡ startNumber p n → startedJob (fresh p) r ≡ fresh p → r ≡ started.Fresh j → RowsFit j
 rows-fit p n r j told is e =

@@ -9,18 +9,17 @@ use libc::STDERR_FILENO;
 use libc::STDIN_FILENO;
 use libc::STDOUT_FILENO;
 use pixels::Dimensions;
-use pixels::PixelLayout;
+use pixels::PIXEL_LANES;
 use pixels::Rect;
 use pixels::Refusal;
 use pixels::Sized;
+use pixels_layout::PixelLayout;
+use preview_decimal::NONE;
+use preview_decimal::number;
 ghost use Prim.Native.Nat.{_≤_};
 ghost use lib.ListN.{length};
 ghost use Rattle.pixels.specs.Sizes.{rowBytes};
-
-mod decimal;
-
-use decimal::NONE;
-use decimal::number;
+ghost use Rattle.job.specs.Record.{lanesOf};
 
 fn say(line: &[u8]) {
     io::write_all(STDERR_FILENO, line);
@@ -38,6 +37,12 @@ fn argument(i: usize) -> u64 {
     number(&text[..n])
 }
 
+fn say_no_number(i: usize) {
+    say(b"preview: argument ");
+    io::print_decimal(STDERR_FILENO, i as u64);
+    say(b" is not a decimal number below 4294967296\n");
+}
+
 // Puts the arguments into `numbers`; at the first that is no number says so and answers false. `count` has the program's own name in it.
 fn arguments(numbers: &mut [u32; 8], count: usize) -> bool {
     let mut i = 0usize;
@@ -47,9 +52,7 @@ fn arguments(numbers: &mut [u32; 8], count: usize) -> bool {
         }
         let n = argument(i + 1);
         if NONE <= n {
-            say(b"preview: argument ");
-            io::print_decimal(STDERR_FILENO, i as u64 + 1);
-            say(b" is not a decimal number below 4294967296\n");
+            say_no_number(i + 1);
             return false;
         }
         numbers[i] = n as u32;
@@ -116,12 +119,16 @@ fn take_ready(first: Run, out: &mut [u8], work: &mut [u32]) -> Run {
     run
 }
 
+fn say_too_short(rows: u32) {
+    say(b"preview: the input is too short: it has only ");
+    io::print_decimal(STDERR_FILENO, rows as u64);
+    say(b" whole rows\n");
+}
+
 // Reads a row and offers it.
 fn feed_row(job: Job, row: &mut [u8], work: &mut [u32]) -> Run {
     if !read_row(row) {
-        say(b"preview: the input is too short: it has only ");
-        io::print_decimal(STDERR_FILENO, job.accepted as u64);
-        say(b" whole rows\n");
+        say_too_short(job.accepted);
         return Run { job, going: false };
     }
     let offered = job.offer(row, work);
@@ -176,13 +183,18 @@ fn say_refusal(why: Refusal) {
     }
 }
 
-// Runs a fresh job on the rows of standard input.
-fn run_job(job: Job, row: &mut [u8], out: &mut [u8], work: &mut [u32])
-    requires { ⌜ (rowBytes (job .plan .source .width) ≤ length (now row)) × (rowBytes (job .plan .target .width) ≤ length (now out)) ⌝ }
+// Runs a fresh job on the rows of standard input; false where something stopped it.
+fn run_job(job: Job, row: &mut [u8], out: &mut [u8], work: &mut [u32]) -> bool
+    requires { ⌜ (rowBytes (lanesOf (job .plan)) (job .plan .source .width) ≤ length (now row)) × (rowBytes (lanesOf (job .plan)) (job .plan .target .width) ≤ length (now out)) ⌝ }
 {
-    let w = 4 * job.plan.source.width as usize;
-    let m = 4 * job.plan.target.width as usize;
-    if !run_rows(job, &mut row[..w], &mut out[..m], work) {
+    let w = PIXEL_LANES * job.plan.source.width as usize;
+    let m = PIXEL_LANES * job.plan.target.width as usize;
+    run_rows(job, &mut row[..w], &mut out[..m], work)
+}
+
+// After the last row: the input must have ended. What stopped the rows was said.
+fn close(whole: bool) {
+    if !whole {
         return;
     }
     if !input_ended() {
@@ -198,7 +210,7 @@ fn scale(source: Dimensions, crop: Rect, target: Dimensions) {
     let started = job::start(source, PixelLayout::Rgba8, crop, target, &mut work);
     match started {
         Started::Refused { why } => say_refusal(why),
-        Started::Fresh { job } => run_job(job, &mut row, &mut out, &mut work),
+        Started::Fresh { job } => close(run_job(job, &mut row, &mut out, &mut work)),
     }
 }
 
@@ -214,8 +226,20 @@ fn preview(source: Dimensions, crop: Rect, width: u32, height: u32) {
     }
 }
 
+// The picture's size, the preview's, and the crop: the whole picture where the arguments name none.
+fn ask(n: &[u32; 8], cropped: bool) {
+    let source = Dimensions {
+        width: n[0],
+        height: n[1],
+    };
+    if cropped {
+        preview(source, Rect::new(n[4], n[5], n[6], n[7]), n[2], n[3]);
+        return;
+    }
+    preview(source, Rect::new(0, 0, n[0], n[1]), n[2], n[3]);
+}
+
 fn main() {
-    let mut n = [0u32; 8];
     let count = os::arg_count();
     if count != 5 && count != 9 {
         say(
@@ -223,16 +247,8 @@ fn main() {
         );
         return;
     }
-    if !arguments(&mut n, count) {
-        return;
+    let mut n = [0u32; 8];
+    if arguments(&mut n, count) {
+        ask(&n, count == 9);
     }
-    let source = Dimensions {
-        width: n[0],
-        height: n[1],
-    };
-    if count == 5 {
-        preview(source, Rect::new(0, 0, n[0], n[1]), n[2], n[3]);
-        return;
-    }
-    preview(source, Rect::new(n[4], n[5], n[6], n[7]), n[2], n[3]);
 }

@@ -5,14 +5,15 @@ use job::Offered;
 use job::Started;
 use job::Taken;
 use libc::STDOUT_FILENO;
-use pictures::apply_alpha_plane;
-use pictures::crop;
 use pixels::Dimensions;
 use pixels::Flagged;
-use pixels::PixelLayout;
+use pixels::PIXEL_LANES;
 use pixels::Rect;
 use pixels::Refusal;
 use pixels::Sized;
+use pixels_alpha::apply_alpha_plane;
+use pixels_crop::crop;
+use pixels_layout::PixelLayout;
 
 mod picture;
 mod text;
@@ -30,6 +31,18 @@ struct Answer {
     check: u32,
 }
 
+// An entry: what is asked, and the original's answer.
+struct Entry {
+    kind: u32,
+    layout: PixelLayout,
+    source: Dimensions,
+    crop: Rect,
+    target: Dimensions,
+    pattern: u32,
+    seed: u32,
+    answer: Answer,
+}
+
 // What no entry holds.
 fn wrong() -> Answer {
     Answer {
@@ -39,23 +52,9 @@ fn wrong() -> Answer {
     }
 }
 
-fn number_of(why: Refusal) -> u32 {
-    match why {
-        Refusal::InvalidDimensions => 1,
-        Refusal::CropOutOfBounds => 2,
-        Refusal::PixelBufferMismatch => 3,
-        Refusal::OutputLength => 4,
-        Refusal::WorkLength => 5,
-        Refusal::InvalidRecord => 6,
-        Refusal::RowReady => 7,
-        Refusal::AllAccepted => 8,
-        Refusal::NoneReady => 9,
-    }
-}
-
 fn refused(why: Refusal) -> Answer {
     Answer {
-        number: number_of(why),
+        number: why.number(),
         flag: 0,
         check: 0,
     }
@@ -73,6 +72,36 @@ fn layout_of(word: u32) -> PixelLayout {
         1 => PixelLayout::Argb8,
         2 => PixelLayout::Bgra8,
         _ => PixelLayout::Rgba8,
+    }
+}
+
+// The entry that fifteen numbers are.
+fn entry_of(n: &[u32; 15]) -> Entry {
+    let layout = layout_of(n[1]);
+    Entry {
+        kind: n[0],
+        layout: layout,
+        source: Dimensions {
+            width: n[2],
+            height: n[3],
+        },
+        crop: Rect {
+            x: n[4],
+            y: n[5],
+            width: n[6],
+            height: n[7],
+        },
+        target: Dimensions {
+            width: n[8],
+            height: n[9],
+        },
+        pattern: n[10],
+        seed: n[11],
+        answer: Answer {
+            number: n[12],
+            flag: n[13],
+            check: n[14],
+        },
     }
 }
 
@@ -150,29 +179,20 @@ fn feed(
     }
 }
 
-// Feeds the source's rows one by one.
-fn run_rows(
-    fresh: Run,
-    width: u32,
-    height: u32,
-    place: usize,
-    pattern: u32,
-    row: &mut [u8],
-    out: &mut [u8],
-    work: &mut [u32],
-) -> Run {
-    let mut run = fresh;
+// Feeds the source's rows one by one, made of the entry's pattern.
+fn run_rows(e: Entry, fresh: Job, row: &mut [u8], out: &mut [u8], work: &mut [u32]) -> Run {
+    let layout = e.layout;
+    let place = layout.alpha_byte_offset();
+    let mut run = Run {
+        job: fresh,
+        sum: picture::EMPTY,
+        state: e.seed,
+        accepted: true,
+    };
     let mut k = 0u32;
-    while k < height {
-        run = feed(
-            run,
-            place,
-            pattern,
-            arithmetic::wrapping_mul(k, width),
-            row,
-            out,
-            work,
-        );
+    while k < e.source.height {
+        let first = arithmetic::wrapping_mul(k, e.source.width);
+        run = feed(run, place, e.pattern, first, row, out, work);
         k += 1;
     }
     run
@@ -193,63 +213,33 @@ fn ended(run: Run, height: u32) -> Answer {
     }
 }
 
-fn by_rows(e: &[u32; 15], row: &mut [u8], out: &mut [u8], work: &mut [u32]) -> Answer {
-    let source = Dimensions {
-        width: e[2],
-        height: e[3],
-    };
-    let crop = Rect {
-        x: e[4],
-        y: e[5],
-        width: e[6],
-        height: e[7],
-    };
-    let target = Dimensions {
-        width: e[8],
-        height: e[9],
-    };
-    let layout = layout_of(e[1]);
-    let started = job::start(source, layout, crop, target, work);
+// Runs a fresh job in the first bytes of the buffers, where they hold a row.
+fn run_job(e: Entry, fresh: Job, row: &mut [u8], out: &mut [u8], work: &mut [u32]) -> Answer {
+    let w = PIXEL_LANES * e.source.width as usize;
+    let m = PIXEL_LANES * e.target.width as usize;
+    if row.len() < w {
+        return wrong();
+    }
+    if out.len() < m {
+        return wrong();
+    }
+    let run = run_rows(e, fresh, &mut row[..w], &mut out[..m], work);
+    ended(run, e.target.height)
+}
+
+fn by_rows(e: Entry, row: &mut [u8], out: &mut [u8], work: &mut [u32]) -> Answer {
+    let layout = e.layout;
+    let started = job::start(e.source, layout, e.crop, e.target, work);
     match started {
         Started::Refused { why } => refused(why),
-        Started::Fresh { job } => {
-            let w = 4 * source.width as usize;
-            let m = 4 * target.width as usize;
-            if row.len() < w {
-                return wrong();
-            }
-            if out.len() < m {
-                return wrong();
-            }
-            let fresh = Run {
-                job,
-                sum: picture::EMPTY,
-                state: e[11],
-                accepted: true,
-            };
-            let place = layout.alpha_byte_offset();
-            let run = run_rows(
-                fresh,
-                source.width,
-                source.height,
-                place,
-                e[10],
-                &mut row[..w],
-                &mut out[..m],
-                work,
-            );
-            ended(run, target.height)
-        }
+        Started::Fresh { job } => run_job(e, job, row, out, work),
     }
 }
 
 // ---- kind 1: scaled
 
-fn by_size(e: &[u32; 15]) -> Answer {
-    let sized = Dimensions {
-        width: e[2],
-        height: e[3],
-    }.scaled(e[8], e[9]);
+fn by_size(e: Entry) -> Answer {
+    let sized = e.source.scaled(e.target.width, e.target.height);
     match sized {
         Sized::Refused(why) => refused(why),
         Sized::Size(d) => Answer {
@@ -263,12 +253,12 @@ fn by_size(e: &[u32; 15]) -> Answer {
 // ---- kinds 2 and 3: crop, and the alpha plane
 
 // The bytes of a picture, 0 where it does not fit the buffers here.
-fn bytes_of(width: u32, height: u32) -> usize {
-    let n = Dimensions { width, height }.pixel_count();
+fn bytes_of(size: Dimensions) -> usize {
+    let n = size.pixel_count();
     if 16384 < n {
         return 0;
     }
-    4 * n as usize
+    PIXEL_LANES * n as usize
 }
 
 fn flagged(answer: Flagged, bytes: &[u8]) -> Answer {
@@ -283,26 +273,19 @@ fn flagged(answer: Flagged, bytes: &[u8]) -> Answer {
 }
 
 // Both buffers have the lengths that the entry's sizes say.
-fn crop_of(e: &[u32; 15], source: &mut [u8], out: &mut [u8]) -> Answer {
-    let layout = layout_of(e[1]);
-    fill(source, layout.alpha_byte_offset(), e[10], 0, e[11]);
-    let size = Dimensions {
-        width: e[2],
-        height: e[3],
-    };
-    let rect = Rect {
-        x: e[4],
-        y: e[5],
-        width: e[6],
-        height: e[7],
-    };
-    let answer = crop(size, layout, source, rect, out);
+fn crop_of(e: Entry, source: &mut [u8], out: &mut [u8]) -> Answer {
+    let layout = e.layout;
+    fill(source, layout.alpha_byte_offset(), e.pattern, 0, e.seed);
+    let answer = crop(e.source, layout, source, e.crop, out);
     flagged(answer, out)
 }
 
-fn by_crop(e: &[u32; 15], source: &mut [u8], out: &mut [u8]) -> Answer {
-    let n = bytes_of(e[2], e[3]);
-    let m = bytes_of(e[6], e[7]);
+fn by_crop(e: Entry, source: &mut [u8], out: &mut [u8]) -> Answer {
+    let n = bytes_of(e.source);
+    let m = bytes_of(Dimensions {
+        width: e.crop.width,
+        height: e.crop.height,
+    });
     if source.len() < n {
         return wrong();
     }
@@ -312,21 +295,17 @@ fn by_crop(e: &[u32; 15], source: &mut [u8], out: &mut [u8]) -> Answer {
     crop_of(e, &mut source[..n], &mut out[..m])
 }
 
-fn plane_of(e: &[u32; 15], source: &mut [u8], plane: &mut [u8]) -> Answer {
-    let layout = layout_of(e[1]);
-    fill(source, layout.alpha_byte_offset(), e[10], 0, e[11]);
-    fill_plane(plane, e[10], e[11]);
-    let size = Dimensions {
-        width: e[2],
-        height: e[3],
-    };
-    let answer = apply_alpha_plane(size, layout, source, plane);
+fn plane_of(e: Entry, source: &mut [u8], plane: &mut [u8]) -> Answer {
+    let layout = e.layout;
+    fill(source, layout.alpha_byte_offset(), e.pattern, 0, e.seed);
+    fill_plane(plane, e.pattern, e.seed);
+    let answer = apply_alpha_plane(e.source, layout, source, plane);
     flagged(answer, source)
 }
 
-fn by_plane(e: &[u32; 15], source: &mut [u8], plane: &mut [u8]) -> Answer {
-    let n = bytes_of(e[2], e[3]);
-    let m = n / 4;
+fn by_plane(e: Entry, source: &mut [u8], plane: &mut [u8]) -> Answer {
+    let n = bytes_of(e.source);
+    let m = n / PIXEL_LANES;
     if source.len() < n {
         return wrong();
     }
@@ -338,27 +317,33 @@ fn by_plane(e: &[u32; 15], source: &mut [u8], plane: &mut [u8]) -> Answer {
 
 // ---- the list
 
-fn answer_of(e: &[u32; 15], source: &mut [u8], out: &mut [u8], work: &mut [u32]) -> Answer {
-    if e[0] == 0 {
-        return by_rows(e, source, out, work);
+fn answer_of(e: Entry, source: &mut [u8], out: &mut [u8], work: &mut [u32]) -> Answer {
+    let kind = e.kind;
+    match kind {
+        0 => by_rows(e, source, out, work),
+        1 => by_size(e),
+        2 => by_crop(e, source, out),
+        _ => by_plane(e, source, out),
     }
-    if e[0] == 1 {
-        return by_size(e);
-    }
-    if e[0] == 2 {
-        return by_crop(e, source, out);
-    }
-    by_plane(e, source, out)
 }
 
-fn differs(e: &[u32; 15], answer: Answer) -> bool {
-    if answer.number != e[12] {
+fn differs(a: Answer, b: Answer) -> bool {
+    if a.number != b.number {
         return true;
     }
-    if answer.flag != e[13] {
+    if a.flag != b.flag {
         return true;
     }
-    answer.check != e[14]
+    a.check != b.check
+}
+
+// 1 where the port's answer differs, 0 where not.
+fn difference(e: Entry, source: &mut [u8], out: &mut [u8], work: &mut [u32]) -> u32 {
+    let ours = answer_of(e, source, out, work);
+    if differs(ours, e.answer) {
+        return 1;
+    }
+    0
 }
 
 // How many entries the list says it has, and how many of them differ.
@@ -371,17 +356,15 @@ fn replay(list: &[u8]) -> Count {
     let mut source = [0u8; 65536];
     let mut out = [0u8; 65536];
     let mut work = [0u32; 131072];
-    let mut e = [0u32; 15];
+    let mut n = [0u32; 15];
     let first = number(list, 0);
     let mut at = first.next;
     let mut left = first.value;
     let mut differ = 0u32;
     while left > 0 {
-        at = entry(list, at, &mut e);
-        let answer = answer_of(&e, &mut source, &mut out, &mut work);
-        if differs(&e, answer) {
-            differ = std::num::wrapping_add_u32(differ, 1);
-        }
+        at = entry(list, at, &mut n);
+        let more = difference(entry_of(&n), &mut source, &mut out, &mut work);
+        differ = std::num::wrapping_add_u32(differ, more);
         left -= 1;
     }
     Count {

@@ -52,8 +52,8 @@ fn colour(pattern: u32, i: u32, b: u32) -> u8 {
 
 // The byte at place j of a row that starts with pixel `first`, from the state s.
 fn value(pattern: u32, place: usize, first: u32, j: usize, s: u32) -> u8 {
-    let i = std::num::wrapping_add_u32(first, (j / 4 % 4294967296) as u32);
-    if j % 4 == place {
+    let i = std::num::wrapping_add_u32(first, (j / pixels::PIXEL_LANES % 4294967296) as u32);
+    if j % pixels::PIXEL_LANES == place {
         return alpha(pattern, i, s / 16777216);
     }
     colour(pattern, i, s / 16777216)

@@ -1,12 +1,4 @@
 pub mod Columns
 pub mod Lanes
-pub mod Incoming
-pub mod Clamps
-pub mod Stores
-pub mod Factors
-pub mod Shrinks
-pub mod Grows
-pub mod Dues
-pub mod Scalings
-pub mod Restores
-pub mod Restorings
+pub mod Layouts
+pub mod Importing

@@ -1,13 +1,8 @@
 pub mod Column
-pub mod Output
+pub mod Lanes
 pub mod WorkRows
+pub mod Import
+pub mod Output
 pub mod Closed
 pub mod Mean
-pub mod Lanes
-pub mod Done
-pub mod Incoming
-pub mod Import
-pub mod Scaling
-pub mod Export
-pub mod Restoring
-pub mod Pixelwise
+pub mod Inner

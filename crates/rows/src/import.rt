@@ -1,28 +1,24 @@
-// A row comes in (document 01; the Rust: Rescaler::import_row of geometry.rs, libwebp's WebPRescalerImportRowShrink_C and
-// WebPRescalerImportRowExpand_C): matted as its bytes are read, the four lanes at once. Work values wrap.
-use crate::Done;
+// A row comes in (document 01; the Rust: Rescaler::import_row of geometry.rs): matted as its bytes are read, the four lanes at once. Work values wrap.
 use arithmetic::frac;
 use arithmetic::matte;
 use arithmetic::mult_fix;
 use arithmetic::wrapping_mul;
-use pixels::MAX_DIMENSION;
-use pixels::PixelLayout;
-use pixels::Places;
+use pixels::Checked;
+use pixels::PIXEL_LANES;
 use pixels::Refusal;
+use pixels::bad_side;
+use pixels_layout::PixelLayout;
+use pixels_layout::Places;
 use std::num::wrapping_add_u32;
 use std::num::wrapping_sub_u32;
 ghost use mathlib.Core.Path.{_≡_};
 ghost use Prim.Native.Nat.{ℕ, _+_, _*_, _/_, _≤_, _<_};
-ghost use lib.ListN.{length, set};
+ghost use lib.ListN.{length};
 ghost use Rattle.arithmetic.specs.Word.{wrapAdd, wrapMul};
-ghost use Rattle.pixels.specs.Sizes.{maxSide, lanes, halfValues, badSide};
-ghost use Rattle.pixels.specs.Refusals.{bufferIf};
-ghost use Rattle.pixels.specs.Lanes.{matted};
-ghost use Rattle.rows.specs.Done.{doneNumber};
-ghost use Rattle.rows.specs.Incoming.{importNumber, addNumber};
-ghost use Rattle.rows.specs.WorkRows.{written, added};
-ghost use Rattle.rows.specs.Lanes.{rowValue};
-ghost use Rattle.rows.specs.Import.{at, Four, laneBytes, mattedAt, PixelAsks, Within, InLanes, GatherAsks, Gathers, Finished, ColumnAsks, Columns, RowAsks, Second, AdvanceAsks, Advances};
+ghost use Rattle.pixels.specs.Sizes.{maxSide, pixelLanes};
+ghost use Rattle.pixels.specs.Refusals.{checkedNumber};
+ghost use Rattle.rows.specs.Import.{importNumber, importHalf};
+ghost use Rattle.rows.specs.Inner.Import.{at, Four, stored, laneBytes, mattedAt, PixelAsks, Within, InLanes, GatherAsks, Gathers, Finished, ColumnAsks, Columns, writtenRow, RowAsks, Second, AdvanceAsks, Advances};
 
 // A number for each lane, or for each byte of a pixel.
 struct Quad {
@@ -58,10 +54,10 @@ fn add4(x: Quad, y: Quad) -> Quad
 // What stands at `pa` itself is a product that nobody reads.
 fn read_matted(row: &[u8], x: usize, pa: usize) -> Quad
     requires { ⌜ PixelAsks (now row) x ⌝ }
-    requires { ⌜ pa < lanes ⌝ }
+    requires { ⌜ pa < pixelLanes ⌝ }
     ensures { λ r. ⌜ Four (λ k. at r k ≡ mattedAt (now (row .entry)) pa k x) ⌝ }
 {
-    let i = 4 * x;
+    let i = PIXEL_LANES * x;
     let alpha = row[i + pa];
     Quad {
         a: matte(row[i], alpha),
@@ -77,7 +73,7 @@ fn read_lanes(row: &[u8], x: usize, p: Places) -> Quad
     requires { ⌜ Within p ⌝ }
     ensures { λ r. ⌜ Four (λ k. at r k ≡ laneBytes p (now (row .entry)) k x) ⌝ }
 {
-    let i = 4 * x;
+    let i = PIXEL_LANES * x;
     let b = i + p.b;
     let g = i + p.g;
     let r = i + p.r;
@@ -118,8 +114,9 @@ struct Gathered {
 }
 
 // Sums pixels from `from` on until they make `need`, m each; `last` and `base` are the last pixel. Bytes in their order, the alpha apart.
+// The Rust: the inner loop of Rescaler::import_row_shrink.
 fn gather(row: &[u8], m: usize, need: usize, from: usize, pa: usize) -> Gathered
-    requires { ⌜ GatherAsks (now row) (length (now row) / lanes) m need from pa ⌝ }
+    requires { ⌜ GatherAsks (now row) (length (now row) / pixelLanes) m need from pa ⌝ }
     ensures { λ r. ⌜ Gathers (now (row .entry)) m need from pa (r .sum) (r .last) (r .alpha) (r .base) (r .next) (r .got) ⌝ }
 {
     let mut sum = zero4();
@@ -132,7 +129,7 @@ fn gather(row: &[u8], m: usize, need: usize, from: usize, pa: usize) -> Gathered
         got += m;
         last = read_matted(row, x, pa);
         sum = add4(sum, last);
-        base = row[4 * x + pa] as u32;
+        base = row[PIXEL_LANES * x + pa] as u32;
         alpha = wrapping_add_u32(alpha, base);
         x += 1;
     }
@@ -151,7 +148,8 @@ struct Ended {
     carry: u32,
 }
 
-// The value and the carry of one lane: what `over` parts of the last pixel are goes to the next column.
+// The value and the carry of one lane: what `over` parts of the last pixel are goes to the next column. The Rust: frac_part, frow[x_out] and sum of
+// Rescaler::import_row_shrink.
 fn finish(m: u32, scale: u32, over: u32, sum: u32, last: u32) -> Ended
     ensures { λ r. ⌜ Finished m scale over sum last (r .value) (r .carry) ⌝ }
 {
@@ -215,21 +213,21 @@ fn make_column(
 
 // Stores the four values of column j.
 fn put4(half: &mut [u32], j: usize, v: Quad)
-    requires { ⌜ (lanes * j + lanes ≤ length (now half)) × (j < maxSide) ⌝ }
-    ensures { λ _. ⌜ now (half .exit) ≡ set (set (set (set (now (half .entry)) (lanes * j) (v .a)) (lanes * j + 1) (v .b)) (lanes * j + 2) (v .c)) (lanes * j + 3) (v .d) ⌝ }
+    requires { ⌜ (pixelLanes * j + pixelLanes ≤ length (now half)) × (j < maxSide) ⌝ }
+    ensures { λ _. ⌜ now (half .exit) ≡ stored (now (half .entry)) j v ⌝ }
 {
-    let i = 4 * j;
+    let i = PIXEL_LANES * j;
     half[i] = v.a;
     half[i + 1] = v.b;
     half[i + 2] = v.c;
     half[i + 3] = v.d;
 }
 
-// Every column where the width does not grow.
+// Every column where the width does not grow. The Rust: Rescaler::import_row_shrink; libwebp: WebPRescalerImportRowShrink_C. Its `sum` carries on here as `carry`.
 fn shrink_row(row: &[u8], n: usize, m: usize, p: Places, half: &mut [u32])
     requires { ⌜ RowAsks (now row) (now half) n m p ⌝ }
     requires { ⌜ m ≤ n ⌝ }
-    ensures { λ _. ⌜ now (half .exit) ≡ written (halfValues m) (rowValue (laneBytes p (now (row .entry))) n m) (now (half .entry)) ⌝ }
+    ensures { λ _. ⌜ now (half .exit) ≡ writtenRow p n m (now (row .entry)) (now (half .entry)) ⌝ }
 {
     let scale = frac(1, m as u32);
     let mut x = 0usize;
@@ -247,22 +245,11 @@ fn shrink_row(row: &[u8], n: usize, m: usize, p: Places, half: &mut [u32])
     }
 }
 
-// left×keep + right×rest of one lane.
+// left×keep + right×rest of one lane. The Rust has right×x_add + (left − right)×accum, which wraps to the same.
 fn blend(left: u32, right: u32, keep: u32, rest: u32) -> u32
     ensures { λ r. ⌜ r ≡ wrapAdd (wrapMul left keep) (wrapMul right rest) ⌝ }
 {
     wrapping_add_u32(wrapping_mul(left, keep), wrapping_mul(right, rest))
-}
-
-fn blend4(left: Quad, right: Quad, keep: u32, rest: u32) -> Quad
-    ensures { λ r. ⌜ Four (λ k. at r k ≡ wrapAdd (wrapMul (at left k) keep) (wrapMul (at right k) rest)) ⌝ }
-{
-    Quad {
-        a: blend(left.a, right.a, keep, rest),
-        b: blend(left.b, right.b, keep, rest),
-        c: blend(left.c, right.c, keep, rest),
-        d: blend(left.d, right.d, keep, rest),
-    }
 }
 
 // Where an output column stands between two pixels: left is pixel x, right the next, and acc of span parts are the left's.
@@ -273,7 +260,19 @@ struct Stand {
     acc: u32,
 }
 
-// The pixel to the right of the first; of one pixel, itself: no pixel past the crop is read.
+// Both pixels' parts, lane by lane; `rest` of the parts are the right's.
+fn blend4(s: Stand, rest: u32) -> Quad
+    ensures { λ r. ⌜ Four (λ k. at r k ≡ wrapAdd (wrapMul (at (s .left) k) (s .acc)) (wrapMul (at (s .right) k) rest)) ⌝ }
+{
+    Quad {
+        a: blend(s.left.a, s.right.a, s.acc, rest),
+        b: blend(s.left.b, s.right.b, s.acc, rest),
+        c: blend(s.left.c, s.right.c, s.acc, rest),
+        d: blend(s.left.d, s.right.d, s.acc, rest),
+    }
+}
+
+// The pixel to the right of the first; of one pixel, itself: no pixel past the crop is read. The Rust: `right` of Rescaler::import_row_expand.
 fn second(n: usize) -> usize
     requires { ⌜ 0 < n ⌝ }
     ensures { λ r. ⌜ Second n r ⌝ }
@@ -285,34 +284,30 @@ fn second(n: usize) -> usize
 }
 
 // One column on: by `step` of the parts, into the next pixel where the left one has fewer.
-fn advance(row: &[u8], span: u32, step: u32, s: Stand, p: Places) -> Stand
-    requires { ⌜ AdvanceAsks (now row) (length (now row) / lanes) span step (s .left) (s .right) (s .x) (s .acc) p ⌝ }
-    ensures { λ r. ⌜ Advances (now (row .entry)) (length (now (row .entry)) / lanes) span step p (s .x) (s .acc) (r .left) (r .right) (r .x) (r .acc) ⌝ }
+fn advance(row: &[u8], span: u32, step: u32, mut s: Stand, p: Places) -> Stand
+    requires { ⌜ AdvanceAsks (now row) (length (now row) / pixelLanes) span step (s .left) (s .right) (s .x) (s .acc) p ⌝ }
+    ensures { λ r. ⌜ Advances (now (row .entry)) (length (now (row .entry)) / pixelLanes) span step p (s .x) (s .acc) (r .left) (r .right) (r .x) (r .acc) ⌝ }
 {
-    let right = s.right;
-    if s.acc < step {
-        let next = s.x + 2;
+    let acc = s.acc;
+    if acc < step {
+        let left = s.right;
+        let x = s.x + 1;
         return Stand {
-            left: right,
-            right: read_lanes(row, next, p),
-            x: s.x + 1,
-            acc: s.acc + span - step,
+            left,
+            right: read_lanes(row, x + 1, p),
+            x,
+            acc: acc + span - step,
         };
     }
-    let left = s.left;
-    Stand {
-        left,
-        right,
-        x: s.x,
-        acc: s.acc - step,
-    }
+    s.acc = acc - step;
+    s
 }
 
-// Every column where the width grows.
+// Every column where the width grows. The Rust: Rescaler::import_row_expand; libwebp: WebPRescalerImportRowExpand_C.
 fn grow_row(row: &[u8], n: usize, m: usize, p: Places, half: &mut [u32])
     requires { ⌜ RowAsks (now row) (now half) n m p ⌝ }
     requires { ⌜ n < m ⌝ }
-    ensures { λ _. ⌜ now (half .exit) ≡ written (halfValues m) (rowValue (laneBytes p (now (row .entry))) n m) (now (half .entry)) ⌝ }
+    ensures { λ _. ⌜ now (half .exit) ≡ writtenRow p n m (now (row .entry)) (now (half .entry)) ⌝ }
 {
     let span = (m - 1) as u32;
     let step = (n - 1) as u32;
@@ -328,36 +323,33 @@ fn grow_row(row: &[u8], n: usize, m: usize, p: Places, half: &mut [u32])
     let mut j = 0usize;
     while j < m {
         s = advance(row, span, step, s, p);
-        let l = s.left;
-        let r = s.right;
-        let v = blend4(l, r, s.acc, span - s.acc);
+        let v = blend4(s, span - s.acc);
         put4(half, j, v);
         j += 1;
     }
 }
 
-// Every column, either way.
-fn write_row(row: &[u8], n: usize, m: usize, p: Places, half: &mut [u32])
-    requires { ⌜ RowAsks (now row) (now half) n m p ⌝ }
-    ensures { λ _. ⌜ now (half .exit) ≡ written (halfValues m) (rowValue (laneBytes p (now (row .entry))) n m) (now (half .entry)) ⌝ }
+// The tests, in the order of document 01's table.
+fn check_import(crop_width: u32, target_width: u32, bytes: usize, room: usize) -> Checked
+    ensures { λ r. ⌜ checkedNumber r ≡ importNumber «crop_width» «target_width» bytes room ⌝ }
 {
-    if m <= n {
-        shrink_row(row, n, m, p, half);
-        return;
+    if bad_side(crop_width as u64) {
+        return Checked::Refused(Refusal::InvalidDimensions);
     }
-    grow_row(row, n, m, p, half);
-}
-
-fn bad_width(width: u32) -> bool
-    ensures { λ r. ⌜ r ≡ badSide width ⌝ }
-{
-    if width == 0 {
-        return true;
+    if bad_side(target_width as u64) {
+        return Checked::Refused(Refusal::InvalidDimensions);
     }
-    width > MAX_DIMENSION
+    if bytes != PIXEL_LANES * crop_width as usize {
+        return Checked::Refused(Refusal::PixelBufferMismatch);
+    }
+    if room < PIXEL_LANES * target_width as usize {
+        return Checked::Refused(Refusal::WorkLength);
+    }
+    Checked::Fit
 }
 
 // One row of the crop, matted as it is read, into a half. A row as wide as the target goes the same way: matting changes it.
+// The Rust: Rescaler::import_row; libwebp: WebPRescalerImportRow.
 // Rules out: a carry rounded down; a row of the crop's width copied as it is; two lanes exchanged; sums that saturate.
 pub fn import_row(
     layout: PixelLayout,
@@ -365,52 +357,23 @@ pub fn import_row(
     target_width: u32,
     row: &[u8],
     half: &mut [u32],
-) -> Done
-    ensures number { λ r. ⌜ doneNumber r ≡ importNumber «crop_width» «target_width» (length (now (row .entry))) (length (now (half .entry))) ⌝ }
-    ensures half { λ _. ⌜ now (half .exit) ≡ bufferIf (importNumber «crop_width» «target_width» (length (now (row .entry))) (length (now (half .entry)))) (written (halfValues «target_width») (rowValue (matted layout (now (row .entry))) «crop_width» «target_width») (now (half .entry))) (now (half .entry)) ⌝ }
+) -> Checked
+    ensures number { λ r. ⌜ checkedNumber r ≡ importNumber «crop_width» «target_width» (length (now (row .entry))) (length (now (half .entry))) ⌝ }
+    ensures half { λ _. ⌜ now (half .exit) ≡ importHalf layout «crop_width» «target_width» (now (row .entry)) (now (half .entry)) ⌝ }
 {
-    if bad_width(crop_width) {
-        return Done::Refused(Refusal::InvalidDimensions);
+    let checked = check_import(crop_width, target_width, row.len(), half.len());
+    match checked {
+        Checked::Refused(why) => Checked::Refused(why),
+        Checked::Fit => {
+            let n = crop_width as usize;
+            let m = target_width as usize;
+            let p = layout.places();
+            if m <= n {
+                shrink_row(row, n, m, p, half);
+                return Checked::Fit;
+            }
+            grow_row(row, n, m, p, half);
+            Checked::Fit
+        }
     }
-    if bad_width(target_width) {
-        return Done::Refused(Refusal::InvalidDimensions);
-    }
-    let n = crop_width as usize;
-    let m = target_width as usize;
-    if row.len() != 4 * n {
-        return Done::Refused(Refusal::PixelBufferMismatch);
-    }
-    if half.len() < 4 * m {
-        return Done::Refused(Refusal::WorkLength);
-    }
-    write_row(row, n, m, layout.places(), half);
-    Done::Done
-}
-
-fn add_to_first(work: &mut [u32], w: usize)
-    requires { ⌜ w + w ≤ length (now work) ⌝ }
-    ensures { λ _. ⌜ now (work .exit) ≡ added w (now (work .entry)) ⌝ }
-{
-    let mut k = 0usize;
-    while k < w {
-        work[k] = wrapping_add_u32(work[k], work[w + k]);
-        k += 1;
-    }
-}
-
-// The second half added to the first, modulo 2^32; the second stays.
-// Rules out: a sum that saturates; the last value left out; the sum put into the second half.
-pub fn add_halves(target_width: u32, work: &mut [u32]) -> Done
-    ensures number { λ r. ⌜ doneNumber r ≡ addNumber «target_width» (length (now (work .entry))) ⌝ }
-    ensures work { λ _. ⌜ now (work .exit) ≡ bufferIf (addNumber «target_width» (length (now (work .entry)))) (added (halfValues «target_width») (now (work .entry))) (now (work .entry)) ⌝ }
-{
-    if bad_width(target_width) {
-        return Done::Refused(Refusal::InvalidDimensions);
-    }
-    let w = 4 * target_width as usize;
-    if work.len() < 2 * w {
-        return Done::Refused(Refusal::WorkLength);
-    }
-    add_to_first(work, w);
-    Done::Done
 }

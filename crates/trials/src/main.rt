@@ -1,38 +1,75 @@
-// Runs the trials of document 01 that are not proved, and one job offered in three ways. The file `stdout` holds what document 01 says:
-// pixels in hexadecimal, byte after byte; a size as width and height.
+// Runs the trials of document 01 that are not proved, the edges of fixed point, matte and restore, and one job offered in three ways. The file `stdout` holds
+// what document 01 says: numbers in hexadecimal; pixels too, byte after byte; a size as width and height.
 use job::Job;
 use job::Offered;
 use job::Plan;
 use job::Started;
 use job::Taken;
 use pixels::Dimensions;
-use pixels::PixelLayout;
+use pixels::PIXEL_LANES;
 use pixels::Rect;
 use pixels::Sized;
+use pixels_layout::PixelLayout;
 ghost use Prim.Native.Nat.{_≤_};
 
 fn main() {
-    // "White 16384 by 1028 to 1 by 1: all 255. 16384 by 1029 to 1 by 1: all 0, the sums wrapped."
-    white(1028);
-    white(1029);
+    mattes();
+    restores();
+    fractions();
+    whites();
+    sizes();
+    small_cuts();
+    large_cuts();
+}
+
+// ---- numbers
+
+fn mattes() {
+    // colour 200 under alpha 128: matted 100, restored 199
+    word_line(arithmetic::matte(200, 128));
+    word_line(arithmetic::mult_argb(0x8000_00c8, false));
+    word_line(arithmetic::mult_argb(0x8000_0064, true));
+}
+
+fn restores() {
+    // a restored colour above 255 spills into the next lane, the red one into the alpha
+    word_line(arithmetic::mult_argb(0x0100_0002, true));
+    word_line(arithmetic::mult_argb(0x01ff_0000, true));
+    // alpha 255 unchanged, alpha 0 gives 0
+    word_line(arithmetic::mult_argb(0xff12_3456, true));
+    word_line(arithmetic::mult_argb(0x0012_3456, false));
+}
+
+fn fractions() {
+    // an exact 1 wraps to 0; a denominator of 0 gives 0
+    word_line(arithmetic::frac(1, 1));
+    word_line(arithmetic::frac(1, 0));
+    word_line(arithmetic::frac(2, 3));
+    // a half is rounded up, or down
+    word_line(arithmetic::mult_fix(3, 0x8000_0000));
+    word_line(arithmetic::mult_fix_floor(3, 0x8000_0000));
+    // a product that wraps
+    word_line(arithmetic::wrapping_mul(0xffff_ffff, 0xffff_fffe));
+}
+
+// ---- sizes
+
+fn sizes() {
     // "1 by 16384 scaled (2,0): 1": refused
     scaled(1, 16384, 2, 0);
     scaled(3, 2, 0, 1);
-    // 5 by 7 to 3 by 4 and to 7 by 11, offered in single rows, in all rows at once and in ragged cuts: the same bytes three times
-    cut(3, 4, 1, 0);
-    cut(3, 4, 7, 0);
-    cut(3, 4, 1, 3);
-    cut(7, 11, 1, 0);
-    cut(7, 11, 7, 0);
-    cut(7, 11, 1, 3);
 }
 
 // ---- a white picture, one row lent again and again
 
+// "White 16384 by 1028 to 1 by 1: all 255. 16384 by 1029 to 1 by 1: all 0, the sums wrapped."
+fn whites() {
+    white(1028);
+    white(1029);
+}
+
 fn white(height: u32) {
-    let row = [255u8; 65536];
     let mut work = [0u32; 8];
-    let mut out = [1u8; 4];
     let source = Dimensions {
         width: 16384,
         height: height,
@@ -42,11 +79,20 @@ fn white(height: u32) {
         height: 1,
     };
     let begun = begin(source, target, &mut work);
-    let full = offer_each(begun, height, &row, &mut work);
-    let answer = full.take(&mut out, &mut work);
-    let done = took(answer);
+    let full = offer_white(begun, height, &mut work);
+    take_pixel(full, &mut work);
+}
+
+fn offer_white(begun: Job, times: u32, work: &mut [u32]) -> Job {
+    let row = [255u8; 65536];
+    offer_each(begun, times, &row, work)
+}
+
+fn take_pixel(full: Job, work: &mut [u32]) {
+    let mut out = [1u8; 4];
+    let answer = full.take(&mut out, work);
     hex_line(&out);
-    count_line(done);
+    count_line(took(answer));
 }
 
 fn offer_each(begun: Job, times: u32, row: &[u8], work: &mut [u32]) -> Job {
@@ -60,28 +106,44 @@ fn offer_each(begun: Job, times: u32, row: &[u8], work: &mut [u32]) -> Job {
     job
 }
 
-// ---- a job in cuts
+// ---- a job in cuts: 5 by 7 offered in single rows, in all rows at once and in ragged cuts: the same bytes three times
 
-// Each turn offers a cut and takes a row; a call that is turned away leaves all as it was. 64 turns are more than 7 rows in and 11 out need.
+fn small_cuts() {
+    cut(3, 4, 1, 0);
+    cut(3, 4, 7, 0);
+    cut(3, 4, 1, 3);
+}
+
+fn large_cuts() {
+    cut(7, 11, 1, 0);
+    cut(7, 11, 7, 0);
+    cut(7, 11, 1, 3);
+}
+
 fn cut(width: u32, height: u32, rows: u32, ragged: u32) {
     let mut pixels = [0u8; 140];
-    let mut work = [0u32; 56];
-    let mut out = [0u8; 308];
     fill(&mut pixels);
-    let source = Dimensions {
-        width: 5,
-        height: 7,
-    };
     let target = Dimensions {
         width: width,
         height: height,
     };
+    scale_in_cuts(target, rows, ragged, &pixels);
+}
+
+fn scale_in_cuts(target: Dimensions, rows: u32, ragged: u32, pixels: &[u8]) {
+    let mut work = [0u32; 56];
+    let mut out = [0u8; 308];
+    let source = Dimensions {
+        width: 5,
+        height: 7,
+    };
     let begun = begin(source, target, &mut work);
-    let done = turns(begun, rows, ragged, &pixels, &mut work, &mut out);
-    picture_line(width, height, &out);
+    let done = turns(begun, rows, ragged, pixels, &mut work, &mut out);
+    picture_line(target.width, target.height, &out);
     count_line(done);
 }
 
+// Each turn offers a cut and takes a row; a call that is turned away leaves all as it was. 64 turns are more than 7 rows in and 11 out need.
 fn turns(
     begun: Job,
     rows: u32,
@@ -141,10 +203,10 @@ fn place(width: u32, k: u32, len: usize) -> usize
     ensures { λ r. ⌜ r ≤ len ⌝ }
 {
     let pixel = width as usize * k as usize;
-    if len / 4 < pixel {
+    if len / PIXEL_LANES < pixel {
         return len;
     }
-    4 * pixel
+    PIXEL_LANES * pixel
 }
 
 // Colours and alphas of every size.
@@ -220,6 +282,11 @@ fn scaled(w: u32, h: u32, width: u32, height: u32) {
 }
 
 // ---- writing
+
+fn word_line(n: u32) {
+    io::print_hex(1, n as u64, 8);
+    io::write_all(1, b"\n");
+}
 
 // The first width × height pixels.
 fn picture_line(width: u32, height: u32, bytes: &[u8]) {

@@ -2,13 +2,18 @@
 use mathlib.Core.Path.{refl}
 use lib.ListN.{length}
 use borrow.Author.Tests.{lt-ltb, le-ltb}
-use Rattle.capi.proofs.Answers.{size-refused, size-stored}
+use Rattle.capi.specs.Pictures.{numberOfScaled, sizeAfterScaled}
+use Rattle.capi.proofs.Answers.{misuse-told, misuse-kept, passed, size-refused, size-stored}
 use borrow.Author.Needs.{needs}
 use Rattle.capi.proofs.jonquilsaw_scaled.Statement.{statement}
 use Rattle.capi.proofs.jonquilsaw_scaled.Tie as tie
 
 returns : tie.Need-returns
-returns c = (simp (lt-ltb (length ((c .before .before .args) .size .now)) 2 ((c .if1) .taken)), refl)
+unfolding numberOfScaled sizeAfterScaled
+returns c =
+    let g = c .before .before .args in
+    let f = lt-ltb (length (g .size .now)) 2 (c .if1 .taken) in
+    (misuse-told _ refl f, misuse-kept _ refl f _ (g .size .now))
 
 scaled-requires : tie.Need-scaled-requires
 scaled-requires c κs = search needs
@@ -16,8 +21,8 @@ scaled-requires c κs = search needs
 enum-known-answer : tie.Need-enum-known-answer
 enum-known-answer c = search needs
 
-number-of-requires : tie.Need-number-of-requires
-number-of-requires c κs = search needs
+number-requires : tie.Need-number-requires
+number-requires c κs = search needs
 
 enum-known-answer-2 : tie.Need-enum-known-answer-2
 enum-known-answer-2 c = search needs
@@ -29,15 +34,25 @@ store-requires : tie.Need-store-requires
 store-requires c κs = search needs
 
 returns-2 : tie.Need-returns-2
-returns-2 c = let s = (c .before .before .before .before .scaled) .ensures in
-    simp (le-ltb (length ((c .before .before .before .before .before .before .before .args) .size .now)) 2 ((c .before .before .before .before .before .if1) .left)) (size-refused ((c .before .before .before .before .scaled) .result) ((c .before .before .answer) .given .0 .0) ((c .number-of) .result) _ _ ((c .before .before .before .before .before .before .before .args) .size .now) ((c .before .before .answer) .given .1) ((c .number-of) .ensures) (s .0))
+unfolding numberOfScaled sizeAfterScaled
+returns-2 c =
+    let g = c .before .before .before .before .before .before .before .args in
+    let f = le-ltb (length (g .size .now)) 2 (c .before .before .before .before .before .if1 .left) in
+    let s = c .before .before .before .before .scaled in
+    let why = c .before .before .answer in
+    size-refused (s .result) _ _ _ (passed _ refl f) (s .ensures .0) (why .given .0 .0) (c .number .result) (g .size .now) (why .given .1) (c .number .ensures)
 
 same-length : tie.Need-same-length
 same-length c = search needs
 
 returns-3 : tie.Need-returns-3
-returns-3 c = let s = (c .before .before .before .before .before .before .before .before .scaled) .ensures in
-    simp (le-ltb (length ((c .before .before .before .before .before .before .before .before .before .before .before .args) .size .now)) 2 ((c .before .before .before .before .before .before .before .before .before .if1) .left)) (size-stored ((c .before .before .before .before .before .before .before .before .scaled) .result) ((c .before .before .before .before .before .before .answer2) .given .0 .0) _ _ _ ((c .before .before .before .before .before .before .before .before .before .before .before .args) .size .now) ((c .before .before .before .before .before .before .answer2) .given .1) (s .0) (s .1) ((c .before .before .store) .ensures))
+unfolding numberOfScaled sizeAfterScaled
+returns-3 c =
+    let g = c .before .before .before .before .before .before .before .before .before .before .before .args in
+    let f = le-ltb (length (g .size .now)) 2 (c .before .before .before .before .before .before .before .before .before .if1 .left) in
+    let s = c .before .before .before .before .before .before .before .before .scaled in
+    let d = c .before .before .before .before .before .before .answer2 in
+    size-stored (s .result) _ _ _ (passed _ refl f) (s .ensures .0) (d .given .0 .0) _ (g .size .now) (d .given .1) (s .ensures .1) (c .before .before .store .ensures)
 
 pub jonquilsaw-scaled-spec : {M : Type 1} → statement M
 jonquilsaw-scaled-spec =
@@ -46,7 +61,7 @@ jonquilsaw-scaled-spec =
     returns
     scaled-requires
     enum-known-answer
-    number-of-requires
+    number-requires
     enum-known-answer-2
     slice-aggregate-store
     store-requires

@@ -1,8 +1,8 @@
 -- The boundary's test, then the library's answer: a refusal keeps the words, a fresh record is stored. Assumes nothing.
-use Rattle.capi.specs.Words.{recordLength, wordsPlan}
+use Rattle.capi_words.specs.Record.{wordsPlan}
+use Rattle.capi.specs.Jobs.{numberOfStart, workAfterStart, recordAfterStart}
+use Rattle.capi.proofs.Answers.{misuse-told, misuse-kept}
 use Rattle.capi.proofs.Jobs.{start-refused, start-fresh}
-use Rattle.capi.proofs.Answers.{misuse-told, lent-enough}
-use mathlib.Core.Path.{refl}
 use borrow.Author.Needs.{needs}
 use Rattle.capi.proofs.jonquilsaw_start.Statement.{statement}
 use Rattle.capi.proofs.jonquilsaw_start.Tie as tie
@@ -11,7 +11,12 @@ misused-requires : tie.Need-misused-requires
 misused-requires c κs = search needs
 
 returns : tie.Need-returns
-returns c = (misuse-told _ ((c .before .misused) .ensures) ((c .if1) .taken), (refl, refl))
+unfolding numberOfStart workAfterStart recordAfterStart
+returns c =
+    let g = c .before .before .before .before .args in
+    let e = c .before .misused .ensures in
+    let f = c .if1 .taken in
+    (misuse-told _ e f, (misuse-kept _ e f _ (g .work .now), misuse-kept _ e f _ (g .«record» .now)))
 
 layout-of-requires : tie.Need-layout-of-requires
 layout-of-requires c κs = search needs
@@ -22,23 +27,29 @@ start-requires c κs = search needs
 enum-known-answer : tie.Need-enum-known-answer
 enum-known-answer c = search needs
 
-number-of-requires : tie.Need-number-of-requires
-number-of-requires c κs = search needs
+number-requires : tie.Need-number-requires
+number-requires c κs = search needs
 
 enum-known-answer-2 : tie.Need-enum-known-answer-2
 enum-known-answer-2 c = search needs
 
 store-job-requires : tie.Need-store-job-requires
-store-job-requires c κs = lent-enough ((c .before .before .before .before .before .before .before .before .before .before .before .before .before .args) .layout) _ recordLength ((c .before .before .before .before .before .before .before .before .before .before .misused) .ensures) ((c .before .before .before .before .before .before .before .before .before .if1) .left)
+store-job-requires c κs = search needs
 
 same-length : tie.Need-same-length
 same-length c = search needs
 
 returns-2 : tie.Need-returns-2
-returns-2 c = let a = (c .before .before .before .before .before .before .before .before .before .before .before .before .before .args) in
-    let p = wordsPlan (a .source-width) (a .source-height) (a .layout) (a .crop-x) (a .crop-y) (a .crop-width) (a .crop-height) (a .target-width) (a .target-height) in
-    let s = rw ((c .before .before .before .before .before .before .before .before .layout-of) .ensures) at ((c .before .before .before .before .before .before .start) .ensures) in
-    start-refused p (a .work .now) (a .«record» .now) _ ((c .before .before .before .before .before .before .start) .result) ((c .before .before .before .before .before .before .before .before .before .before .misused) .ensures) ((c .before .before .before .before .before .before .before .before .before .if1) .left) (s .0) (s .1 .1) _ ((c .number-of) .result) ((c .before .before .answer) .given .1) ((c .number-of) .ensures)
+unfolding numberOfStart workAfterStart recordAfterStart
+returns-2 c =
+    let b = c .before .before .before .before .before .before in
+    let g = b .before .before .before .before .before .before .before .args in
+    let p = wordsPlan (g .source-width) (g .source-height) (g .layout) (g .crop-x) (g .crop-y) (g .crop-width) (g .crop-height) (g .target-width) (g .target-height) in
+    let s = rw (b .before .before .layout-of .ensures) at (b .start .ensures) in
+    let e = b .before .before .before .before .misused .ensures in
+    let f = b .before .before .before .if1 .left in
+    let why = c .before .before .answer .given in
+    start-refused p (g .work .now) (g .«record» .now) _ (b .start .result) e f (s .0) (s .1 .1) (why .0 .0) (c .number .result) (why .1) (c .number .ensures)
 
 same-length-2 : tie.Need-same-length-2
 same-length-2 c = search needs
@@ -47,10 +58,16 @@ same-length-3 : tie.Need-same-length-3
 same-length-3 c = search needs
 
 returns-3 : tie.Need-returns-3
-returns-3 c = let a = (c .before .before .before .before .before .before .before .before .before .before .before .before .before .before .before .before .args) in
-    let p = wordsPlan (a .source-width) (a .source-height) (a .layout) (a .crop-x) (a .crop-y) (a .crop-width) (a .crop-height) (a .target-width) (a .target-height) in
-    let s = rw ((c .before .before .before .before .before .before .before .before .before .before .before .layout-of) .ensures) at ((c .before .before .before .before .before .before .before .before .before .start) .ensures) in
-    start-fresh p (a .work .now) (a .«record» .now) _ ((c .before .before .before .before .before .before .before .before .before .start) .result) ((c .before .before .before .before .before .before .before .before .before .before .before .before .before .misused) .ensures) ((c .before .before .before .before .before .before .before .before .before .before .before .before .if1) .left) (s .0) (s .1 .1) _ _ ((c .before .before .before .before .before .answer2) .given .1) (s .1 .0) ((c .before .before .store-job) .ensures)
+unfolding numberOfStart workAfterStart recordAfterStart
+returns-3 c =
+    let b = c .before .before .before .before .before .before .before .before .before in
+    let g = b .before .before .before .before .before .before .before .args in
+    let p = wordsPlan (g .source-width) (g .source-height) (g .layout) (g .crop-x) (g .crop-y) (g .crop-width) (g .crop-height) (g .target-width) (g .target-height) in
+    let s = rw (b .before .before .layout-of .ensures) at (b .start .ensures) in
+    let e = b .before .before .before .before .misused .ensures in
+    let f = b .before .before .before .if1 .left in
+    let job = c .before .before .before .before .before .answer2 .given in
+    start-fresh p (g .work .now) (g .«record» .now) _ (b .start .result) e f (s .0) (s .1 .1) (job .0 .0) _ (job .1) (s .1 .0) (c .before .before .store-job .ensures)
 
 pub jonquilsaw-start-spec : {M : Type 1} → statement M
 jonquilsaw-start-spec =
@@ -61,7 +78,7 @@ jonquilsaw-start-spec =
     layout-of-requires
     start-requires
     enum-known-answer
-    number-of-requires
+    number-requires
     enum-known-answer-2
     store-job-requires
     same-length

@@ -1,28 +1,28 @@
 -- The record's words, then the library's answer: a refusal keeps everything, a row taken stores the record. Assumes nothing.
-use Rattle.capi.proofs.Jobs.{enough-words, no-record, take-refused, take-wrote}
-use Rattle.capi.proofs.Answers.{kept-by}
-use Rattle.pixels.specs.declared.Refusal.the-variants.{InvalidRecord}
-use borrow.Author.Tests.{not-true, not-false}
+use Rattle.capi.proofs.Jobs.{take-no-record, take-refused, take-wrote}
 use borrow.Author.Needs.{needs}
 use Rattle.capi.proofs.jonquilsaw_take.Statement.{statement}
 use Rattle.capi.proofs.jonquilsaw_take.Tie as tie
 
-legal-requires : tie.Need-legal-requires
-legal-requires c κs = search needs
+read-job-requires : tie.Need-read-job-requires
+read-job-requires c κs = search needs
 
-number-of-requires : tie.Need-number-of-requires
-number-of-requires c κs = search needs
+enum-known-told : tie.Need-enum-known-told
+enum-known-told c = search needs
+
+enum-told : tie.Need-enum-told
+enum-told c = search needs
+
+number-requires : tie.Need-number-requires
+number-requires c κs = search needs
 
 same-length : tie.Need-same-length
 same-length c = search needs
 
 returns : tie.Need-returns
-returns c = let a = (c .before .before .before .before .before .before .before .args) in
-    let n = (c .number-of) .ensures in
-    (no-record (a .«record» .now) _ _ ((c .before .before .legal) .ensures) (not-true _ ((c .before .if1) .taken)) n, (kept-by InvalidRecord _ _ (a .«record» .now) n, (kept-by InvalidRecord _ _ (a .out .now) n, kept-by InvalidRecord _ _ (a .work .now) n)))
-
-read-job-requires : tie.Need-read-job-requires
-read-job-requires c κs = enough-words ((c .before .before .before .before .before .before .before .args) .«record» .now) ((c .before .before .legal) .ensures) (not-false _ ((c .before .if1) .left))
+returns c =
+    let g = c .before .before .before .before .before .before .before .before .args in
+    take-no-record (g .«record» .now) (g .out .now) (g .work .now) (c .number .result) (c .before .before .before .read-job .ensures) (c .before .enum-told .given .1) (c .number .ensures)
 
 take-requires : tie.Need-take-requires
 take-requires c κs = search needs
@@ -30,14 +30,14 @@ take-requires c κs = search needs
 enum-known-answer : tie.Need-enum-known-answer
 enum-known-answer c = search needs
 
-number-of-requires-2 : tie.Need-number-of-requires-2
-number-of-requires-2 c κs = search needs
+number-requires-2 : tie.Need-number-requires-2
+number-requires-2 c κs = search needs
 
 enum-known-answer-2 : tie.Need-enum-known-answer-2
 enum-known-answer-2 c = search needs
 
 store-job-requires : tie.Need-store-job-requires
-store-job-requires c κs = enough-words ((c .before .before .before .before .before .before .before .before .before .before .before .before .before .before .before .before .before .before .before .args) .«record» .now) ((c .before .before .before .before .before .before .before .before .before .before .before .before .before .before .legal) .ensures) (not-false _ ((c .before .before .before .before .before .before .before .before .before .before .before .before .before .if1) .left))
+store-job-requires c κs = search needs
 
 same-length-2 : tie.Need-same-length-2
 same-length-2 c = search needs
@@ -49,9 +49,15 @@ same-length-4 : tie.Need-same-length-4
 same-length-4 c = search needs
 
 returns-2 : tie.Need-returns-2
-returns-2 c = let a = (c .before .before .before .before .before .before .before .before .before .before .before .before .before .before .before .before .before .before .before .args) in
-    let o = (c .before .before .before .before .before .before .before .before .take) .ensures in
-    take-refused (a .«record» .now) (a .out .now) (a .work .now) _ _ ((c .before .before .before .before .before .before .before .before .before .before .before .read-job) .result) ((c .before .before .before .before .before .before .before .before .before .before .before .read-job) .ensures) ((c .before .before .before .before .before .before .before .before .take) .result) ((c .before .before .before .before .before .before .before .before .before .before .before .before .before .before .legal) .ensures) (not-false _ ((c .before .before .before .before .before .before .before .before .before .before .before .before .before .if1) .left)) (o .0) (o .1 .1 .0) (o .1 .1 .1) _ _ ((c .number-of2) .result) ((c .before .before .answer) .given .1) ((c .number-of2) .ensures)
+returns-2 c =
+    let b = c .before .before .before .before .before .before .before .before in
+    let d = b .before .before .before .before .before .before in
+    let g = d .before .before .before .before .before .args in
+    let o = b .take .ensures in
+    let j = b .before .before .before .before .told .given in
+    let why = c .before .before .answer .given in
+    take-refused (g .«record» .now) (g .out .now) (g .work .now) _ _ (j .0 .0) (d .read-job .ensures) (j .1)
+    (b .take .result) (o .0) (o .1 .1 .0) (o .1 .1 .1) (why .0 .0) _ (c .number2 .result) (why .1) (c .number2 .ensures)
 
 same-length-5 : tie.Need-same-length-5
 same-length-5 c = search needs
@@ -63,22 +69,29 @@ same-length-7 : tie.Need-same-length-7
 same-length-7 c = search needs
 
 returns-3 : tie.Need-returns-3
-returns-3 c = let a = (c .before .before .before .before .before .before .before .before .before .before .before .before .before .before .before .before .before .before .before .before .before .before .args) in
-    let o = (c .before .before .before .before .before .before .before .before .before .before .before .take) .ensures in
-    take-wrote (a .«record» .now) (a .out .now) (a .work .now) _ _ ((c .before .before .before .before .before .before .before .before .before .before .before .before .before .before .read-job) .result) ((c .before .before .before .before .before .before .before .before .before .before .before .before .before .before .read-job) .ensures) ((c .before .before .before .before .before .before .before .before .before .before .before .take) .result) ((c .before .before .before .before .before .before .before .before .before .before .before .before .before .before .before .before .before .legal) .ensures) (not-false _ ((c .before .before .before .before .before .before .before .before .before .before .before .before .before .before .before .before .if1) .left)) (o .0) (o .1 .1 .0) (o .1 .1 .1) _ _ ((c .before .before .before .before .before .answer2) .given .1) (o .1 .0) ((c .before .before .store-job) .ensures)
+returns-3 c =
+    let b = c .before .before .before .before .before .before .before .before .before .before .before in
+    let d = b .before .before .before .before .before .before in
+    let g = d .before .before .before .before .before .args in
+    let o = b .take .ensures in
+    let j = b .before .before .before .before .told .given in
+    let a = c .before .before .before .before .before .answer2 .given in
+    take-wrote (g .«record» .now) (g .out .now) (g .work .now) _ _ (j .0 .0) (d .read-job .ensures) (j .1)
+    (b .take .result) (o .0) (o .1 .1 .0) (o .1 .1 .1) _ _ (a .1) (o .1 .0) (c .before .before .store-job .ensures)
 
 pub jonquilsaw-take-spec : {M : Type 1} → statement M
 jonquilsaw-take-spec =
     tie.close
     (tie.spec
-    legal-requires
-    number-of-requires
+    read-job-requires
+    enum-known-told
+    enum-told
+    number-requires
     same-length
     returns
-    read-job-requires
     take-requires
     enum-known-answer
-    number-of-requires-2
+    number-requires-2
     enum-known-answer-2
     store-job-requires
     same-length-2

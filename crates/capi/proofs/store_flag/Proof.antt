@@ -7,8 +7,8 @@ use Rattle.capi.proofs.store_flag.Tie as tie
 enum-known-answer : tie.Need-enum-known-answer
 enum-known-answer c = search needs
 
-number-of-requires : tie.Need-number-of-requires
-number-of-requires c κs = search needs
+number-requires : tie.Need-number-requires
+number-requires c κs = search needs
 
 enum-known-answer-2 : tie.Need-enum-known-answer-2
 enum-known-answer-2 c = search needs
@@ -23,20 +23,27 @@ store-requires : tie.Need-store-requires
 store-requires c κs = search needs
 
 returns : tie.Need-returns
-returns c = flag-refused ((c .before .before .before .before .before .args) .answer) ((c .before .before .answer) .given .0 .0) ((c .number-of) .result) ((c .before .before .before .before .before .args) .flag .now) ((c .before .before .answer) .given .1) ((c .number-of) .ensures)
+returns c =
+    let g = c .before .before .before .before .before .args in
+    let why = c .before .before .answer in
+    flag-refused (g .answer) (why .given .0 .0) (c .number .result) (g .flag .now) (why .given .1) (c .number .ensures)
 
 same-length : tie.Need-same-length
 same-length c = search needs
 
 returns-2 : tie.Need-returns-2
-returns-2 c = flag-stored ((c .before .before .before .before .before .before .before .before .before .before .args) .answer) ((c .before .before .before .before .before .before .before .answer2) .given .0 .0) ((c .before .before .before .before .before .flag-word) .result) _ ((c .before .before .before .before .before .before .before .before .before .before .args) .flag .now) ((c .before .before .before .before .before .before .before .answer2) .given .1) ((c .before .before .before .before .before .flag-word) .ensures) ((c .before .before .store) .ensures)
+returns-2 c =
+    let g = c .before .before .before .before .before .before .before .before .before .before .args in
+    let f = c .before .before .before .before .before .before .before .answer2 in
+    let w = c .before .before .before .before .before .flag-word in
+    flag-stored (g .answer) (f .given .0 .0) (w .result) _ (g .flag .now) (f .given .1) (w .ensures) (c .before .before .store .ensures)
 
 pub store-flag-spec : {M : Type 1} → statement M
 store-flag-spec =
     tie.close
     (tie.spec
     enum-known-answer
-    number-of-requires
+    number-requires
     enum-known-answer-2
     flag-word-requires
     slice-aggregate-store

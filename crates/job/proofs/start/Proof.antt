@@ -1,56 +1,62 @@
--- The tests in their order; then both halves are cleared. Assumes nothing.
-use mathlib.Core.Path.{sym}
+-- A refusal is handed on with its number; else both halves are cleared. Assumes nothing.
+use Prim.Native.Nat.{ℕ, _*_}
+use mathlib.Core.Path.{sym, ap}
 use native.Mathlib.Omega.{arith}
-use Rattle.job.specs.Record.{planOf}
-use Rattle.job.proofs.Answering.{start-sizes, start-short, start-goes}
 use borrow.Author.Needs.{needs}
+use Rattle.job.specs.Record.{planOf}
+use Rattle.job.proofs.Answering.{start-refused, start-goes}
+use Rattle.job.proofs.Views.{start-went}
 use Rattle.job.proofs.start.Statement.{statement}
 use Rattle.job.proofs.start.Tie as tie
 
-check-sizes-requires : tie.Need-check-sizes-requires
-check-sizes-requires c κs = search needs
+check-start-requires : tie.Need-check-start-requires
+check-start-requires c κs = search needs
 
 enum-known-checked : tie.Need-enum-known-checked
 enum-known-checked c = search needs
 
 returns : tie.Need-returns
-returns c = let a = c .before .before .before .before .before .args in
-    start-sizes (planOf (a .source) (a .layout) (a .crop) (a .target)) (a .work .now) (c .before .checked .given .0 .0) (sym (rw (c .before .checked .given .1) at (c .before .before .before .check-sizes .ensures)))
+returns c =
+    let a = (c .before .before .before .before .before .args) in
+    let p = planOf (a .source) (a .layout) (a .crop) (a .target) in
+    start-refused p (a .work .now) ((c .before .checked) .given .0 .0) (sym (rw ((c .before .checked) .given .1) at ((c .before .before .before .check-start) .ensures)))
 
 enum-told : tie.Need-enum-told
 enum-told c = search needs
 
-cast-n : tie.Need-cast-n
-cast-n c = search needs
+row-bytes-requires : tie.Need-row-bytes-requires
+row-bytes-requires c κs = search needs
 
-mul-n : tie.Need-mul-n
-mul-n c = search needs
-
-returns-2 : tie.Need-returns-2
-returns-2 c = let a = c .before .before .before .before .before .before .args in
-    start-short (planOf (a .source) (a .layout) (a .crop) (a .target)) (a .work .now) (sym (rw (c .before .before .enum-told .given .1) at (c .before .before .before .before .check-sizes .ensures))) (omega (arith, (c .if1) .taken))
+mul-clear : tie.Need-mul-clear
+mul-clear c = search needs
 
 clear-requires : tie.Need-clear-requires
-clear-requires c κs = search needs
+clear-requires c κs =
+    let a = (c .before .before .before .before .before .before .args) in
+    let p = planOf (a .source) (a .layout) (a .crop) (a .target) in
+    let z = sym (rw ((c .before .before .enum-told) .given .1) at ((c .before .before .before .before .check-start) .ensures)) in
+    omega (arith, (c .row-bytes) .ensures, start-went p (a .work .now) z .room)
 
 same-length : tie.Need-same-length
 same-length c = search needs
 
-returns-3 : tie.Need-returns-3
-returns-3 c = let a = c .before .before .before .before .before .before .before .before .before .before .args in
-    start-goes (planOf (a .source) (a .layout) (a .crop) (a .target)) (a .work .now) (sym (rw (c .before .before .before .before .before .before .enum-told .given .1) at (c .before .before .before .before .before .before .before .before .check-sizes .ensures))) _ _ (omega arith) (c .before .before .before .before .if1 .left) (c .before .before .clear .ensures)
+returns-2 : tie.Need-returns-2
+returns-2 c =
+    let a = (c .before .before .before .before .before .before .before .before .before .args) in
+    let p = planOf (a .source) (a .layout) (a .crop) (a .target) in
+    let z = sym (rw ((c .before .before .before .before .before .enum-told) .given .1) at ((c .before .before .before .before .before .before .before .check-start) .ensures)) in
+    start-goes p (a .work .now) z _ _ (ap (λ (x : ℕ). 2 * x) (c .before .before .before .row-bytes .ensures)) ((c .before .before .clear) .ensures)
 
 pub start-spec : {M : Type 1} → statement M
 start-spec =
     tie.close
     (tie.spec
-    check-sizes-requires
+    check-start-requires
     enum-known-checked
     returns
     enum-told
-    cast-n
-    mul-n
-    returns-2
+    row-bytes-requires
+    mul-clear
     clear-requires
     same-length
-    returns-3)
+    returns-2)

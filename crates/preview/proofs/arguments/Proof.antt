@@ -7,10 +7,10 @@ use Rattle.preview.proofs.arguments.Statement.{statement}
 use Rattle.preview.proofs.arguments.Tie as tie
 
 abbrev Inv-loop : tie.InvT-loop
-Inv-loop numbers₀ count i₀ t5 t6 numbers i = i ≤ 8
+Inv-loop numbers₀ count i₀ numbers i = i ≤ 8
 
 abbrev μ-loop : tie.MeasureT-loop
-μ-loop numbers₀ count i₀ t5 t6 numbers i = 8 - i
+μ-loop numbers₀ count i₀ numbers i = 8 - i
 
 loop-holds : tie.Need-loop-holds Inv-loop μ-loop
 loop-holds c = search needs
@@ -27,23 +27,11 @@ add-argument c = search needs
 argument-requires : tie.Need-argument-requires Inv-loop μ-loop
 argument-requires c κs = search needs
 
-slice-aggregate-say : tie.Need-slice-aggregate-say Inv-loop μ-loop
-slice-aggregate-say c = search needs
+add-say-no-number : tie.Need-add-say-no-number Inv-loop μ-loop
+add-say-no-number c = search needs
 
-say-requires : tie.Need-say-requires Inv-loop μ-loop
-say-requires c κs = search needs
-
-add-print-decimal : tie.Need-add-print-decimal Inv-loop μ-loop
-add-print-decimal c = search needs
-
-print-decimal-requires : tie.Need-print-decimal-requires Inv-loop μ-loop
-print-decimal-requires c κs = search needs
-
-slice-aggregate-say-2 : tie.Need-slice-aggregate-say-2 Inv-loop μ-loop
-slice-aggregate-say-2 c = search needs
-
-say-requires-2 : tie.Need-say-requires-2 Inv-loop μ-loop
-say-requires-2 c κs = search needs
+say-no-number-requires : tie.Need-say-no-number-requires Inv-loop μ-loop
+say-no-number-requires c κs = search needs
 
 returns-2 : tie.Need-returns-2 Inv-loop μ-loop
 returns-2 c = search needs
@@ -80,12 +68,8 @@ arguments-spec =
     returns
     add-argument
     argument-requires
-    slice-aggregate-say
-    say-requires
-    add-print-decimal
-    print-decimal-requires
-    slice-aggregate-say-2
-    say-requires-2
+    add-say-no-number
+    say-no-number-requires
     returns-2
     cast-numbers
     mul-numbers

@@ -43,39 +43,6 @@ same-length-3 c = search needs
 returns : tie.Need-returns
 returns c = search needs
 
-input-ended-requires : tie.Need-input-ended-requires
-input-ended-requires c κs = search needs
-
-slice-aggregate-say : tie.Need-slice-aggregate-say
-slice-aggregate-say c = search needs
-
-say-requires : tie.Need-say-requires
-say-requires c κs = search needs
-
-same-length-4 : tie.Need-same-length-4
-same-length-4 c = search needs
-
-same-length-5 : tie.Need-same-length-5
-same-length-5 c = search needs
-
-same-length-6 : tie.Need-same-length-6
-same-length-6 c = search needs
-
-returns-2 : tie.Need-returns-2
-returns-2 c = search needs
-
-same-length-7 : tie.Need-same-length-7
-same-length-7 c = search needs
-
-same-length-8 : tie.Need-same-length-8
-same-length-8 c = search needs
-
-same-length-9 : tie.Need-same-length-9
-same-length-9 c = search needs
-
-returns-3 : tie.Need-returns-3
-returns-3 c = search needs
-
 pub run-job-spec : {M : Type 1} → statement M
 run-job-spec =
     tie.close
@@ -92,15 +59,4 @@ run-job-spec =
     same-length
     same-length-2
     same-length-3
-    returns
-    input-ended-requires
-    slice-aggregate-say
-    say-requires
-    same-length-4
-    same-length-5
-    same-length-6
-    returns-2
-    same-length-7
-    same-length-8
-    same-length-9
-    returns-3)
+    returns)

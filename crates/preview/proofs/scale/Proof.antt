@@ -3,7 +3,7 @@ use Prim.Native.Nat.{ℕ}
 use native.Mathlib.Omega.{arith}
 use lib.ListN.{length-replicate}
 use borrow.Author.Needs.{needs}
-use Rattle.pixels.specs.declared.PixelLayout.the-variants.{Rgba8}
+use Rattle.pixels_layout.specs.declared.PixelLayout.the-variants.{Rgba8}
 use Rattle.job.specs.Record.{planOf}
 use Rattle.preview.proofs.Buffers.{rows-fit}
 use Rattle.preview.proofs.scale.Statement.{statement}
@@ -35,8 +35,15 @@ slice-aggregate-run-job-3 c = search needs
 
 run-job-requires : tie.Need-run-job-requires
 run-job-requires c κs =
-    let f = rows-fit (planOf (c .before .before .before .before .before .before .before .before .before .args .source) Rgba8 (c .before .before .before .before .before .before .before .before .before .args .crop) (c .before .before .before .before .before .before .before .before .before .args .target)) _ (c .before .before .before .before .before .before .before .start .result) (c .before .before .before .before .started2 .given .0 .0) (c .before .before .before .before .before .before .before .start .ensures .0) (c .before .before .before .before .before .before .before .start .ensures .1 .0) (c .before .before .before .before .started2 .given .1) in
+    let b = c .before .before .before .before in
+    let s = b .before .before .before .start in
+    let g = b .before .before .before .before .before .args in
+    let j = b .started2 .given in
+    let f = rows-fit (planOf (g .source) Rgba8 (g .crop) (g .target)) _ (s .result) (j .0 .0) (s .ensures .0) (s .ensures .1 .0) (j .1) in
     (omega (arith, f .source, length-replicate {A = ℕ} 65536 0), omega (arith, f .target, length-replicate {A = ℕ} 65536 0))
+
+close-requires : tie.Need-close-requires
+close-requires c κs = search needs
 
 returns : tie.Need-returns
 returns c = search needs
@@ -57,5 +64,6 @@ scale-spec =
     slice-aggregate-run-job-2
     slice-aggregate-run-job-3
     run-job-requires
+    close-requires
     returns
     returns-2)

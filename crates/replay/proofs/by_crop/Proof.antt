@@ -1,23 +1,11 @@
--- `replay::by_crop` lends beginnings of its buffers: both are tested to be long enough. Assumes nothing.
+-- `replay::by_crop` lends beginnings of its buffers, tested to be long enough. Assumes nothing.
 use lib.Seq.{length-take-le}
 use borrow.Author.Needs.{needs}
 use Rattle.replay.proofs.by_crop.Statement.{statement}
 use Rattle.replay.proofs.by_crop.Tie as tie
 
-element-copy-out-bytes-of : tie.Need-element-copy-out-bytes-of
-element-copy-out-bytes-of c = search needs
-
-element-copy-out-bytes-of-2 : tie.Need-element-copy-out-bytes-of-2
-element-copy-out-bytes-of-2 c = search needs
-
 bytes-of-requires : tie.Need-bytes-of-requires
 bytes-of-requires c κs = search needs
-
-element-copy-out-bytes-of-3 : tie.Need-element-copy-out-bytes-of-3
-element-copy-out-bytes-of-3 c = search needs
-
-element-copy-out-bytes-of-4 : tie.Need-element-copy-out-bytes-of-4
-element-copy-out-bytes-of-4 c = search needs
 
 bytes-of-requires-2 : tie.Need-bytes-of-requires-2
 bytes-of-requires-2 c κs = search needs
@@ -62,11 +50,7 @@ pub by-crop-spec : {M : Type 1} → statement M
 by-crop-spec =
     tie.close
     (tie.spec
-    element-copy-out-bytes-of
-    element-copy-out-bytes-of-2
     bytes-of-requires
-    element-copy-out-bytes-of-3
-    element-copy-out-bytes-of-4
     bytes-of-requires-2
     wrong-requires
     returns

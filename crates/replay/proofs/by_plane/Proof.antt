@@ -1,14 +1,8 @@
--- `replay::by_plane` lends beginnings of its buffers: both are tested to be long enough. Assumes nothing.
+-- `replay::by_plane` lends beginnings of its buffers, tested to be long enough. Assumes nothing.
 use lib.Seq.{length-take-le}
 use borrow.Author.Needs.{needs}
 use Rattle.replay.proofs.by_plane.Statement.{statement}
 use Rattle.replay.proofs.by_plane.Tie as tie
-
-element-copy-out-bytes-of : tie.Need-element-copy-out-bytes-of
-element-copy-out-bytes-of c = search needs
-
-element-copy-out-bytes-of-2 : tie.Need-element-copy-out-bytes-of-2
-element-copy-out-bytes-of-2 c = search needs
 
 bytes-of-requires : tie.Need-bytes-of-requires
 bytes-of-requires c κs = search needs
@@ -53,8 +47,6 @@ pub by-plane-spec : {M : Type 1} → statement M
 by-plane-spec =
     tie.close
     (tie.spec
-    element-copy-out-bytes-of
-    element-copy-out-bytes-of-2
     bytes-of-requires
     wrong-requires
     returns

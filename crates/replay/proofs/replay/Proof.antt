@@ -7,10 +7,10 @@ use Rattle.replay.proofs.replay.Statement.{statement}
 use Rattle.replay.proofs.replay.Tie as tie
 
 abbrev Inv-loop : tie.InvT-loop
-Inv-loop list source₀ out₀ work₀ e₀ first at₀ left₀ differ₀ source out work e at left differ = (length source ≡ 65536) × ((length out ≡ 65536) × (length work ≡ 131072))
+Inv-loop list source₀ out₀ work₀ n₀ first at₀ left₀ differ₀ source out work n at left differ = (length source ≡ 65536) × ((length out ≡ 65536) × (length work ≡ 131072))
 
 abbrev μ-loop : tie.MeasureT-loop
-μ-loop list source₀ out₀ work₀ e₀ first at₀ left₀ differ₀ source out work e at left differ = left
+μ-loop list source₀ out₀ work₀ n₀ first at₀ left₀ differ₀ source out work n at left differ = left
 
 number-requires : tie.Need-number-requires Inv-loop μ-loop
 number-requires c κs = search needs
@@ -21,20 +21,20 @@ loop-holds c = search needs
 entry-requires : tie.Need-entry-requires Inv-loop μ-loop
 entry-requires c κs = search needs
 
-slice-aggregate-answer-of : tie.Need-slice-aggregate-answer-of Inv-loop μ-loop
-slice-aggregate-answer-of c = search (needs, length-take-le)
+entry-of-requires : tie.Need-entry-of-requires Inv-loop μ-loop
+entry-of-requires c κs = search needs
 
-slice-aggregate-answer-of-2 : tie.Need-slice-aggregate-answer-of-2 Inv-loop μ-loop
-slice-aggregate-answer-of-2 c = search (needs, length-take-le)
+slice-aggregate-difference : tie.Need-slice-aggregate-difference Inv-loop μ-loop
+slice-aggregate-difference c = search (needs, length-take-le)
 
-slice-aggregate-answer-of-3 : tie.Need-slice-aggregate-answer-of-3 Inv-loop μ-loop
-slice-aggregate-answer-of-3 c = search (needs, length-take-le)
+slice-aggregate-difference-2 : tie.Need-slice-aggregate-difference-2 Inv-loop μ-loop
+slice-aggregate-difference-2 c = search (needs, length-take-le)
 
-answer-of-requires : tie.Need-answer-of-requires Inv-loop μ-loop
-answer-of-requires c κs = search needs
+slice-aggregate-difference-3 : tie.Need-slice-aggregate-difference-3 Inv-loop μ-loop
+slice-aggregate-difference-3 c = search (needs, length-take-le)
 
-differs-requires : tie.Need-differs-requires Inv-loop μ-loop
-differs-requires c κs = search needs
+difference-requires : tie.Need-difference-requires Inv-loop μ-loop
+difference-requires c κs = search needs
 
 wrapping-add-u32-requires : tie.Need-wrapping-add-u32-requires Inv-loop μ-loop
 wrapping-add-u32-requires c κs = search needs
@@ -60,11 +60,11 @@ replay-spec =
     number-requires
     loop-holds
     entry-requires
-    slice-aggregate-answer-of
-    slice-aggregate-answer-of-2
-    slice-aggregate-answer-of-3
-    answer-of-requires
-    differs-requires
+    entry-of-requires
+    slice-aggregate-difference
+    slice-aggregate-difference-2
+    slice-aggregate-difference-3
+    difference-requires
     wrapping-add-u32-requires
     sub-left
     loop-less

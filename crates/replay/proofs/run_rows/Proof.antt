@@ -7,10 +7,13 @@ use Rattle.replay.proofs.run_rows.Statement.{statement}
 use Rattle.replay.proofs.run_rows.Tie as tie
 
 abbrev Inv-loop : tie.InvT-loop
-Inv-loop width height place pattern row₀ out₀ work₀ run₀ k₀ row out work run k = (length row ≡ length row₀) × ((length out ≡ length out₀) × (length work ≡ length work₀))
+Inv-loop e row₀ out₀ work₀ place run₀ k₀ row out work run k = (length row ≡ length row₀) × ((length out ≡ length out₀) × (length work ≡ length work₀))
 
 abbrev μ-loop : tie.MeasureT-loop
-μ-loop width height place pattern row₀ out₀ work₀ run₀ k₀ row out work run k = height - k
+μ-loop e row₀ out₀ work₀ place run₀ k₀ row out work run k = e .source .height - k
+
+alpha-byte-offset-requires : tie.Need-alpha-byte-offset-requires Inv-loop μ-loop
+alpha-byte-offset-requires c κs = search needs
 
 loop-holds : tie.Need-loop-holds Inv-loop μ-loop
 loop-holds c = search needs
@@ -48,6 +51,7 @@ run-rows-spec =
     (tie.spec
     Inv-loop
     μ-loop
+    alpha-byte-offset-requires
     loop-holds
     wrapping-mul-requires
     feed-requires

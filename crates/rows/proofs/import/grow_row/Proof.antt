@@ -4,16 +4,16 @@ use mathlib.Core.Path.{_≡_, refl, ap, _∙_}
 use mathlib.Core.List.{List}
 use native.Mathlib.Omega.{arith}
 use native.Mathlib.Nat.{mul-le-mul-right, lt-of-mul-lt-mul-right}
-use lib.ListN.{length, set}
+use lib.ListN.{length}
 use Rattle.arithmetic.specs.Word.{wrapAdd, wrapMul}
 use Rattle.arithmetic.specs.Table.{tabulate}
-use Rattle.pixels.specs.Sizes.{lanes}
-use Rattle.pixels.specs.declared.Places.{Places}
+use Rattle.pixels.specs.Sizes.{pixelLanes}
+use Rattle.pixels_layout.specs.declared.Places.{Places}
 use Rattle.rows.specs.declared.import.Quad.{Quad}
 use Rattle.rows.specs.Column.{value}
 use Rattle.rows.specs.WorkRows.{written}
 use Rattle.rows.specs.Lanes.{rowValue}
-use Rattle.rows.specs.Import.{at, Four, laneBytes, PixelAsks, Second, Stands, AdvanceAsks, Advances, RowAsks}
+use Rattle.rows.specs.Inner.Import.{at, Four, stored, laneBytes, PixelAsks, Second, Stands, AdvanceAsks, Advances, writtenRow, RowAsks}
 use Rattle.rows.proofs.Columns.{lane-grown}
 use Rattle.rows.proofs.Lanes.{each, lane-byte, row-values, put-four, written-length}
 use Rattle.rows.proofs.import.grow_row.Statement.{statement}
@@ -24,7 +24,7 @@ record Inv (s : List ℕ) (n m : ℕ) (p : Places) (half₀ half : List ℕ) (le
   stands : Stands (laneBytes p s) n left right x
   along : acc + j * (n - 1) ≡ suc x * (m - 1) + (n - 1)
   most : acc ≤ (m - 1) + (n - 1)
-  half-is : half ≡ written (lanes * j) (rowValue (laneBytes p s) n m) half₀
+  half-is : half ≡ written (pixelLanes * j) (rowValue pixelLanes (laneBytes p s) n m) half₀
 
 first : {s half₀ : List ℕ} {n m r : ℕ} {p : Places} {left right : Quad} → RowAsks s half₀ n m p → Second n r
     → Four (λ k. at left k ≡ laneBytes p s k 0) → Four (λ k. at right k ≡ laneBytes p s k r)
@@ -58,9 +58,9 @@ module _ {s half₀ half : List ℕ} {n m : ℕ} {p : Places} {left right : Quad
       let below : suc x * (m - 1) < (n - 1) * (m - 1) = omega (arith, i .along) in
       omega (arith, lt-of-mul-lt-mul-right (m - 1) below)
 
-  asks : j < m → AdvanceAsks s (length s / lanes) (m - 1) (n - 1) left right x acc p
+  asks : j < m → AdvanceAsks s (length s / pixelLanes) (m - 1) (n - 1) left right x acc p
   asks t =
-      let e : length s / lanes ≡ n = omega (arith, a .whole) in
+      let e : length s / pixelLanes ≡ n = omega (arith, a .whole) in
       rw e
       (record {
         stands = i .stands;
@@ -75,17 +75,17 @@ module _ {s half₀ half : List ℕ} {n m : ℕ} {p : Places} {left right : Quad
       })
 
   same : length half ≡ length half₀
-  same = ap length (i .half-is) ∙ written-length (lanes * j) (rowValue (laneBytes p s) n m) half₀ (omega (arith, i .so-far, a .room))
+  same = ap length (i .half-is) ∙ written-length (pixelLanes * j) (rowValue pixelLanes (laneBytes p s) n m) half₀ (omega (arith, i .so-far, a .room))
 
-  module _ {left' right' : Quad} {x' acc' : ℕ} (w : Advances s (length s / lanes) (m - 1) (n - 1) p x acc left' right' x' acc') where
+  module _ {left' right' : Quad} {x' acc' : ℕ} (w : Advances s (length s / pixelLanes) (m - 1) (n - 1) p x acc left' right' x' acc') where
     rest : acc' ≤ m - 1
     rest = w .small
 
     turn : (v : Quad) → j < m → Four (λ k. at v k ≡ wrapAdd (wrapMul (at left' k) acc') (wrapMul (at right' k) ((m - 1) - acc')))
-        → (half' : List ℕ) → half' ≡ set (set (set (set half (lanes * j) (v .a)) (lanes * j + 1) (v .b)) (lanes * j + 2) (v .c)) (lanes * j + 3) (v .d)
+        → (half' : List ℕ) → half' ≡ stored half j v
         → Inv s n m p half₀ half' left' right' x' acc' (j + 1)
     turn v t e half' put =
-        let whole : length s / lanes ≡ n = omega (arith, a .whole) in
+        let whole : length s / pixelLanes ≡ n = omega (arith, a .whole) in
         let st : Stands (laneBytes p s) n left' right' x' = rw whole at (w .stands) in
         let q : ℕ → ℕ → ℕ = laneBytes p s in
         let here : acc' + j * (n - 1) ≡ suc x' * (m - 1) = omega (arith, i .along, w .along) in
@@ -104,11 +104,11 @@ module _ {s half₀ half : List ℕ} {n m : ℕ} {p : Places} {left right : Quad
           stands = st;
           along = omega arith;
           most = omega (arith, w .small);
-          half-is = put ∙ put-four (rowValue q n m) j half₀ (omega (arith, a .room)) half v (i .half-is) (row-values q n m j v values);
+          half-is = put ∙ put-four (rowValue pixelLanes q n m) j half₀ (omega (arith, a .room)) half v (i .half-is) (row-values q n m j v values);
         }
 
-  done : m ≤ j → half ≡ written (lanes * m) (rowValue (laneBytes p s) n m) half₀
-  done t = i .half-is ∙ ap (λ (k : ℕ). written (lanes * k) (rowValue (laneBytes p s) n m) half₀) (let e : j ≡ m = omega (arith, i .so-far) in e)
+  done : m ≤ j → half ≡ writtenRow p n m s half₀
+  done t = i .half-is ∙ ap (λ (k : ℕ). written (pixelLanes * k) (rowValue pixelLanes (laneBytes p s) n m) half₀) (let e : j ≡ m = omega (arith, i .so-far) in e)
 
 abbrev Inv-loop : tie.InvT-loop
 Inv-loop row n m p half₀ span step beside s₀ j₀ half s j = Inv row n m p half₀ half (s .left) (s .right) (s .x) (s .acc) j
@@ -117,58 +117,81 @@ abbrev μ-loop : tie.MeasureT-loop
 μ-loop row n m p half₀ span step beside s₀ j₀ half s j = m - j
 
 sub-span : tie.Need-sub-span Inv-loop μ-loop
-sub-span c = omega (arith, (c .before .before .pre) .0 .m-pos)
+sub-span c = omega (arith, c .before .before .pre .0 .m-pos)
 
 cast-span : tie.Need-cast-span Inv-loop μ-loop
-cast-span c = omega (arith, (c .before .before .pre) .0 .m-small)
+cast-span c = omega (arith, c .before .before .pre .0 .m-small)
 
 sub-step : tie.Need-sub-step Inv-loop μ-loop
-sub-step c = omega (arith, (c .before .before .pre) .0 .n-pos)
+sub-step c = omega (arith, c .before .before .pre .0 .n-pos)
 
 cast-step : tie.Need-cast-step Inv-loop μ-loop
-cast-step c = omega (arith, (c .before .before .pre) .0 .n-small)
+cast-step c = omega (arith, c .before .before .pre .0 .n-small)
 
 read-lanes-requires : tie.Need-read-lanes-requires Inv-loop μ-loop
-read-lanes-requires c κs = (pixel 0 ((c .before .before .pre) .0) ((c .before .before .pre) .0 .n-pos), (c .before .before .pre) .0 .places)
+read-lanes-requires c κs = let a = c .before .before .pre .0 in (pixel 0 a (a .n-pos), a .places)
 
 second-requires : tie.Need-second-requires Inv-loop μ-loop
-second-requires c κs = (c .before .before .before .pre) .0 .n-pos
+second-requires c κs = c .before .before .before .pre .0 .n-pos
 
 read-lanes-requires-2 : tie.Need-read-lanes-requires-2 Inv-loop μ-loop
-read-lanes-requires-2 c κs = (pixel _ ((c .before .before .before .before .pre) .0) ((c .second) .ensures .inside), (c .before .before .before .before .pre) .0 .places)
+read-lanes-requires-2 c κs = let a = c .before .before .before .before .pre .0 in (pixel _ a (c .second .ensures .inside), a .places)
 
-add-t17 : tie.Need-add-t17 Inv-loop μ-loop
-add-t17 c = omega (arith, (c .before .before .before .before .before .pre) .0 .n-small, (c .before .before .before .before .before .pre) .0 .m-small)
+add-t15 : tie.Need-add-t15 Inv-loop μ-loop
+add-t15 c =
+    let a = c .before .before .before .before .before .pre .0 in
+    omega (arith, a .n-small, a .m-small)
 
 loop-holds : tie.Need-loop-holds Inv-loop μ-loop
-loop-holds c = first ((c .before .before .before .before .before .pre) .0) ((c .before .second) .ensures) ((c .before .before .read-lanes) .ensures) ((c .read-lanes2) .ensures)
+loop-holds c =
+    first (c .before .before .before .before .before .pre .0) (c .before .second .ensures) (c .before .before .read-lanes .ensures) (c .read-lanes2 .ensures)
 
 advance-requires : tie.Need-advance-requires Inv-loop μ-loop
-advance-requires c κs = asks ((c .before .before .before .before .before .before .before .pre) .0) ((c .before .before .before .before .before .before .before .pre) .1) ((c .before .loop) .inv) ((c .loop-test) .taken)
+advance-requires c κs =
+    let pre = c .before .before .before .before .before .before .before .pre in
+    asks (pre .0) (pre .1) (c .before .loop .inv) (c .loop-test .taken)
 
 sub-blend4 : tie.Need-sub-blend4 Inv-loop μ-loop
-sub-blend4 c = rest ((c .before .before .before .before .before .before .before .before .before .before .before .pre) .0) ((c .before .before .before .before .before .before .before .before .before .before .before .pre) .1) ((c .before .before .before .before .before .loop) .inv) ((c .before .before .before .advance) .ensures)
+sub-blend4 c =
+    let b = c .before .before .before in
+    let pre = b .before .before .before .before .before .before .pre in
+    rest (pre .0) (pre .1) (b .loop .inv) (c .before .advance .ensures)
 
 blend4-requires : tie.Need-blend4-requires Inv-loop μ-loop
 blend4-requires c κs = tt
 
 put4-requires : tie.Need-put4-requires Inv-loop μ-loop
-put4-requires c κs = (let a = (c .before .before .before .before .before .before .before .before .before .before .before .before .before .pre) .0 in omega (arith, same ((c .before .before .before .before .before .before .before .before .before .before .before .before .before .pre) .0) ((c .before .before .before .before .before .before .before .before .before .before .before .before .before .pre) .1) ((c .before .before .before .before .before .before .before .loop) .inv), a .room, a .m-small, (c .before .before .before .before .before .before .loop-test) .taken))
+put4-requires c κs =
+    let t = c .before .before .before .before in
+    let pre = t .before .before .before .before .before .before .before .pre in
+    omega (arith, same (pre .0) (pre .1) (t .before .loop .inv), pre .0 .room, pre .0 .m-small, t .loop-test .taken)
 
 add-j : tie.Need-add-j Inv-loop μ-loop
-add-j c = (let a = (c .before .before .before .before .before .before .before .before .before .before .before .before .before .before .before .before .pre) .0 in omega (arith, a .m-small, (c .before .before .before .before .before .before .before .before .before .loop-test) .taken))
+add-j c =
+    let t = c .before .before .before .before .before .before .before in
+    let pre = t .before .before .before .before .before .before .before .pre in
+    omega (arith, pre .0 .m-small, t .loop-test .taken)
 
 loop-less : tie.Need-loop-less Inv-loop μ-loop
-loop-less c = omega (arith, (c .before .before .before .before .before .before .before .before .before .loop-test) .taken)
+loop-less c = omega (arith, c .before .before .before .before .before .before .before .loop-test .taken)
 
 loop-again : tie.Need-loop-again Inv-loop μ-loop
-loop-again c = turn ((c .before .before .before .before .before .before .before .before .before .before .before .before .before .before .before .before .pre) .0) ((c .before .before .before .before .before .before .before .before .before .before .before .before .before .before .before .before .pre) .1) ((c .before .before .before .before .before .before .before .before .before .before .loop) .inv) ((c .before .before .before .before .before .before .before .before .advance) .ensures) ((c .before .before .before .before .blend4) .result) ((c .before .before .before .before .before .before .before .before .before .loop-test) .taken) ((c .before .before .before .before .blend4) .ensures) ((c .before .before .put4) .last .0) ((c .before .before .put4) .ensures)
+loop-again c =
+    let v = c .before .before .before .before in
+    let t = v .before .before .before in
+    let pre = t .before .before .before .before .before .before .before .pre in
+    turn (pre .0) (pre .1) (t .before .loop .inv) (v .before .before .advance .ensures) (v .blend4 .result) (t .loop-test .taken)
+    (v .blend4 .ensures) (c .before .before .put4 .last .0) (c .before .before .put4 .ensures)
 
 same-length : tie.Need-same-length Inv-loop μ-loop
-same-length c = same ((c .before .before .before .before .before .before .before .pre) .0) ((c .before .before .before .before .before .before .before .pre) .1) ((c .before .loop) .inv)
+same-length c =
+    let pre = c .before .before .before .before .before .before .before .pre in
+    same (pre .0) (pre .1) (c .before .loop .inv)
 
 returns : tie.Need-returns Inv-loop μ-loop
-returns c = done ((c .before .before .before .before .before .before .before .pre) .0) ((c .before .before .before .before .before .before .before .pre) .1) ((c .before .loop) .inv) ((c .loop-test) .left)
+returns c =
+    let pre = c .before .before .before .before .before .before .before .pre in
+    done (pre .0) (pre .1) (c .before .loop .inv) (c .loop-test .left)
 
 pub grow-row-spec : {M : Type 1} → statement M
 grow-row-spec =
@@ -183,7 +206,7 @@ grow-row-spec =
     read-lanes-requires
     second-requires
     read-lanes-requires-2
-    add-t17
+    add-t15
     loop-holds
     advance-requires
     sub-blend4

@@ -1,6 +1,6 @@
 -- `read_lanes`: what is read is laneBytes by definition. Assumes nothing.
 use mathlib.Core.Path.{refl}
-use Rattle.rows.specs.Import.{byteAt, mattedAt, laneBytes}
+use Rattle.rows.specs.Inner.Import.{byteAt, mattedAt, laneBytes}
 use Prim.Native.Nat.{_+_, _*_}
 use native.Mathlib.Omega.{arith}
 use borrow.Author.Needs.{needs}
@@ -44,11 +44,20 @@ matte-requires-3 : tie.Need-matte-requires-3
 matte-requires-3 c κs = search needs
 
 cast-t20 : tie.Need-cast-t20
-cast-t20 c = omega (arith, (c .before .before .before .before .before .before .before .before .before .before .before .shared-slice-known) .given (4 * (c .before .before .before .before .before .before .before .before .before .before .before .before .args) .x + (c .before .before .before .before .before .before .before .before .before .before .before .before .args) .p .a))
+cast-t20 c =
+    let k = c .before .before .before .before .before .before .before .before .before .before .before in
+    let a = k .before .args in
+    omega (arith, k .shared-slice-known .given (4 * a .x + a .p .a))
 
 returns : tie.Need-returns
 unfolding laneBytes mattedAt byteAt
-returns c = record { l0 = (c .before .before .before .before .matte) .ensures; l1 = (c .before .before .matte2) .ensures; l2 = (c .matte3) .ensures; l3 = refl }
+returns c =
+    record {
+      l0 = c .before .before .before .before .matte .ensures;
+      l1 = c .before .before .matte2 .ensures;
+      l2 = c .matte3 .ensures;
+      l3 = refl;
+    }
 
 pub read-lanes-spec : {M : Type 1} → statement M
 read-lanes-spec =

@@ -1,0 +1,14 @@
+-- What the private functions of a job ask. Assumes nothing.
+use Prim.Native.Nat.{ℕ, _≤_}
+use mathlib.Core.Path.{_≡_}
+use mathlib.Core.List.{List}
+use lib.ListN.{length}
+use Rattle.pixels.specs.Sizes.{rowBytes, workValues, Fits}
+use Rattle.job.specs.declared.Plan.{Plan}
+use Rattle.job.specs.Record.{lanesOf}
+
+-- a source row as lent, and enough work values
+pub record RowAsks (p : Plan) (row work : List ℕ) : Type 0 where
+  pub fits : Fits (p .source) (p .crop) (p .target)
+  pub long : length row ≡ rowBytes (lanesOf p) (p .source .width)
+  pub room : workValues (lanesOf p) (p .target .width) ≤ length work

@@ -1,0 +1,205 @@
+-- The rows of a job are the rows of crop then resize (document 01, "The job": "`resize` is a job with the full crop"). Why: byte z of row c of the cropped
+-- picture is the source's byte of that place counted from the crop's corner, so both have the same matted bytes; and the closed form of an output row
+-- reads no row or column beyond the crop. Assumes nothing.
+use Prim.Native.Nat.{ℕ, zero, suc, _+_, _*_, _/_, _%_, _≤_, _<_}
+use mathlib.Core.Path.{_≡_, refl, sym, ap, ap₂, _∙_}
+use mathlib.Core.Bool.{Bool, false}
+use mathlib.Core.Logic.{⊎-elim}
+use mathlib.Core.List.{List, [], _∷_, _++_}
+use native.Mathlib.Omega.{arith}
+use native.Mathlib.Nat.{mul-le-mul-left, le-of-suc-le-suc, eq-or-lt-of-le}
+use lib.ListN.{length, getD, take, drop, length-append, length-drop, List·getD-append}
+use lib.Seq.{length-take-le, take-suc, take-all, getD-take, getD-append-add}
+use borrow.Author.Tests.{le-leb}
+use Rattle.arithmetic.specs.Matte.{laneOf, multArgb}
+use Rattle.arithmetic.specs.Weight.{span}
+use Rattle.arithmetic.proofs.Tables.{length-tabulate, tabulate-cong}
+use Rattle.pixels.specs.declared.Dimensions.{Dimensions}
+use Rattle.pixels.specs.declared.Rect.{Rect}
+use Rattle.pixels.specs.Sizes.{pixelLanes, rowBytes, pictureBytes, halfValues, sizeOf, Fits}
+use Rattle.pixels_layout.specs.Layout.{placeOf}
+use Rattle.pixels_layout.specs.Lanes.{restoredPlace}
+use Rattle.pixels_alpha.specs.Alpha.{hasAlpha}
+use Rattle.pixels_crop.specs.Crop.{windowOf, pictureRow, croppedRows, cropped}
+use Rattle.pixels_layout.proofs.Tabled.{place-lt}
+use Rattle.rows_schedule.proofs.Crop.{rows-all}
+use Rattle.rows_schedule.proofs.Needed.{needed-le}
+use Rattle.rows.specs.Column.{value}
+use Rattle.rows.specs.Closed.{scaled}
+use Rattle.rows_laws.proofs.Reach.{scaledByte-same}
+use Rattle.job.specs.declared.Plan.{Plan}
+use Rattle.job.specs.Record.{lanesOf, R}
+use Rattle.job_claim.specs.Rows.{sourceByte, mattedByte, scaledLane, rowOf, joined, rowsOf, resizePlan, resized, resizedFlag}
+use Rattle.job_claim.specs.Calls.{Run}
+use Rattle.arithmetic.proofs.Mattes.{pixel-cong}
+use Rattle.job.proofs.Restoring.{restored-cong}
+use Rattle.pixels_crop.proofs.Windows.{window-byte, window-length}
+use Rattle.job_claim.proofs.Reading.{value-cong}
+use Rattle.job_claim.proofs.Feeding.{row-length, row-byte}
+use Rattle.job_claim.proofs.Flagged.{joined-append}
+
+-- ---- the cropped picture
+
+-- row c of the crop, and where its byte z stands in a picture w pixels wide
+abbrev cropRow : List ℕ → ℕ → Rect → ℕ → List ℕ
+cropRow pixels w crop c = windowOf pixelLanes (pictureRow pixelLanes pixels w (crop .y + c)) (crop .x) (crop .width)
+
+abbrev cropPlace : ℕ → Rect → ℕ → ℕ → ℕ
+cropPlace w crop c z = rowBytes pixelLanes w * (crop .y + c) + (rowBytes pixelLanes (crop .x) + z)
+
+module _ (source : Dimensions) (crop : Rect) (target : Dimensions) (pixels : List ℕ) (fits : Fits source crop target) (long : length pixels ≡ pictureBytes pixelLanes (source .width) (source .height)) where
+  all-here : pictureBytes pixelLanes (source .width) (source .height) ≤ length pixels
+  all-here = omega arith
+
+  module _ (c : ℕ) (in-crop : c < crop .height) where
+    in-source : crop .y + c < source .height
+    in-source = omega (arith, fits .bottom)
+
+    inside : rowBytes pixelLanes (crop .x + crop .width) ≤ length (pictureRow pixelLanes pixels (source .width) (crop .y + c))
+    inside = rw (row-length pixels (source .width) (source .height) (crop .y + c) all-here in-source) (mul-le-mul-left pixelLanes (fits .right))
+
+    part-length : length (cropRow pixels (source .width) crop c) ≡ rowBytes pixelLanes (crop .width)
+    part-length = window-length pixelLanes (pictureRow pixelLanes pixels (source .width) (crop .y + c)) (crop .x) (crop .width) inside
+
+    part-byte : (z : ℕ) → z < rowBytes pixelLanes (crop .width) → getD (cropRow pixels (source .width) crop c) z 0 ≡ getD pixels (cropPlace (source .width) crop c z) 0
+    part-byte z l =
+        window-byte pixelLanes (pictureRow pixelLanes pixels (source .width) (crop .y + c)) (crop .x) (crop .width) inside z l
+        ∙ row-byte pixels (source .width) (source .height) (crop .y + c) all-here in-source (rowBytes pixelLanes (crop .x) + z) (omega (arith, fits .right))
+
+  -- the first n rows of the crop
+  parts-length : (n : ℕ) → n ≤ crop .height → length (croppedRows pixels (source .width) crop n) ≡ rowBytes pixelLanes (crop .width) * n
+  unfolding croppedRows
+  parts-length zero le = omega arith
+  parts-length (suc n) le =
+      omega (arith, length-append (croppedRows pixels (source .width) crop n) (cropRow pixels (source .width) crop n), parts-length n (omega arith), part-length n le)
+
+  parts-byte : (n : ℕ) → n ≤ crop .height → (c z : ℕ) → c < n → z < rowBytes pixelLanes (crop .width)
+      → getD (croppedRows pixels (source .width) crop n) (rowBytes pixelLanes (crop .width) * c + z) 0 ≡ getD pixels (cropPlace (source .width) crop c z) 0
+  unfolding croppedRows
+  parts-byte zero le c z l u = absurd (omega arith)
+  parts-byte (suc n) le c z l u =
+      let before : List ℕ = croppedRows pixels (source .width) crop n in
+      let many : length before ≡ rowBytes pixelLanes (crop .width) * n = parts-length n (omega arith) in
+      ⊎-elim
+      (λ e.
+      let at : rowBytes pixelLanes (crop .width) * c + z ≡ length before + z = ap (λ (t : ℕ). rowBytes pixelLanes (crop .width) * t + z) e ∙ omega arith in
+      rw at (getD-append-add before (cropRow pixels (source .width) crop n) z 0)
+      ∙ part-byte n le z u
+      ∙ ap (λ (t : ℕ). getD pixels (cropPlace (source .width) crop t z) 0) (sym e))
+      (λ m.
+      List·getD-append before (cropRow pixels (source .width) crop n) 0 (rowBytes pixelLanes (crop .width) * c + z) (omega (arith, mul-le-mul-left (rowBytes pixelLanes (crop .width)) m))
+      ∙ parts-byte n (omega arith) c z m u)
+      (eq-or-lt-of-le (le-of-suc-le-suc l))
+
+  pub cropped-length : length (cropped source crop pixels) ≡ pictureBytes pixelLanes (crop .width) (crop .height)
+  unfolding cropped
+  cropped-length = parts-length (crop .height) (omega arith)
+
+  pub cropped-byte : (c z : ℕ) → c < crop .height → z < rowBytes pixelLanes (crop .width)
+      → getD (cropped source crop pixels) (rowBytes pixelLanes (crop .width) * c + z) 0 ≡ getD pixels (rowBytes pixelLanes (source .width) * (crop .y + c) + (rowBytes pixelLanes (crop .x) + z)) 0
+  unfolding cropped
+  cropped-byte c z l u = parts-byte (crop .height) (omega arith) c z l u
+
+-- ---- the closed form looks at the pixels of the crop alone
+pub scaled-cong : (n m h g : ℕ) (p q : ℕ → ℕ → ℕ) (j y : ℕ) → 0 < h → j < m → y < g
+    → ((c i : ℕ) → c < h → i < n → p c i ≡ q c i) → scaled n m h g p j y ≡ scaled n m h g q j y
+unfolding scaled
+scaled-cong n m h g p q j y some within below same =
+    scaledByte-same h g (λ c. value (p c) n m j) (λ c. value (q c) n m j) (span n m) y some (omega arith)
+    (λ c l. value-cong (p c) (q c) n m j within (λ i u. same c i (omega (arith, needed-le h g y some below)) u))
+
+-- ---- rows one after another
+pub rowOf-length : (p : Plan) (b : ℕ → ℕ) (y : ℕ) → length (rowOf p b y) ≡ rowBytes (lanesOf p) (p .target .width)
+unfolding rowOf
+rowOf-length p b y = length-tabulate (restoredPlace (p .layout) (scaledLane p b y)) (rowBytes (lanesOf p) (p .target .width))
+
+pub rowsOf-cong : (p q : Plan) (b d : ℕ → ℕ) (n : ℕ) → ((y : ℕ) → y < n → rowOf p b y ≡ rowOf q d y) → rowsOf p b n ≡ rowsOf q d n
+unfolding rowsOf
+rowsOf-cong p q b d zero same = refl
+rowsOf-cong p q b d (suc n) same = ap₂ _++_ (rowsOf-cong p q b d n (λ y l. same y (omega arith))) (same n (omega arith))
+
+pub rowsOf-joined : (p : Plan) (b : ℕ → ℕ) (rows : List (List ℕ)) (n : ℕ) → length rows ≡ n → ((y : ℕ) → y < n → getD rows y [] ≡ rowOf p b y) → joined rows ≡ rowsOf p b n
+unfolding rowsOf joined
+rowsOf-joined p b [] zero long same = refl
+rowsOf-joined p b (row ∷ rows) zero long same = absurd (omega arith)
+rowsOf-joined p b rows (suc n) long same =
+    let e : rows ≡ take n rows ++ (getD rows n [] ∷ []) = sym (take-all (suc n) rows (omega arith)) ∙ take-suc rows n [] (omega arith) in
+    ap joined e
+    ∙ joined-append (take n rows) (getD rows n [])
+    ∙ ap₂ _++_
+    (rowsOf-joined p b (take n rows) n (length-take-le n rows (omega arith)) (λ y l. getD-take n rows y [] l ∙ same y (omega arith)))
+    (same n (omega arith))
+
+-- ---- the job of plan p over the source's bytes, and `resize` over the cropped bytes
+abbrev pub wholePlan : Plan → Plan
+wholePlan p = resizePlan (sizeOf (p .crop .width) (p .crop .height)) (p .layout) (p .target)
+
+abbrev pub sourceOf : List ℕ → ℕ → ℕ
+sourceOf pixels i = getD pixels i 0
+
+abbrev pub croppedOf : Plan → List ℕ → ℕ → ℕ
+croppedOf p pixels i = getD (cropped (p .source) (p .crop) pixels) i 0
+
+module _ (p : Plan) (pixels : List ℕ) (fits : Fits (p .source) (p .crop) (p .target)) (long : length pixels ≡ pictureBytes pixelLanes (p .source .width) (p .source .height)) where
+  same-byte : (c i k : ℕ) → c < p .crop .height → i < p .crop .width → k < pixelLanes
+      → sourceByte p (sourceOf pixels) c i k ≡ sourceByte (wholePlan p) (croppedOf p pixels) c i k
+  same-byte c i k l u v =
+      let small = place-lt (p .layout) k v in
+      let at : pixelLanes * (p .crop .x + i) + placeOf (p .layout) k ≡ rowBytes pixelLanes (p .crop .x) + (pixelLanes * i + placeOf (p .layout) k) = omega arith in
+      let at-row : 0 + c ≡ c = omega arith in
+      let at-column : 0 + i ≡ i = omega arith in
+      rw (at, at-row, at-column)
+      (sym (cropped-byte (p .source) (p .crop) (p .target) pixels fits long c (pixelLanes * i + placeOf (p .layout) k) l (omega arith)))
+
+  pub matted-same : (k c i : ℕ) → c < p .crop .height → i < p .crop .width
+      → mattedByte p (sourceOf pixels) k c i ≡ mattedByte (wholePlan p) (croppedOf p pixels) k c i
+  unfolding mattedByte
+  matted-same k c i l u =
+      ap (λ (t : ℕ). laneOf (multArgb t false) k)
+      (pixel-cong (sourceByte p (sourceOf pixels) c i) (sourceByte (wholePlan p) (croppedOf p pixels) c i) (λ k' v. same-byte c i k' l u v))
+
+  lane-same : (y x : ℕ) → y < p .target .height → x < halfValues (lanesOf p) (p .target .width)
+      → scaledLane p (sourceOf pixels) y x ≡ scaledLane (wholePlan p) (croppedOf p pixels) y x
+  unfolding scaledLane
+  lane-same y x l u =
+      scaled-cong (p .crop .width) (p .target .width) (p .crop .height) (p .target .height)
+      (mattedByte p (sourceOf pixels) (x % pixelLanes)) (mattedByte (wholePlan p) (croppedOf p pixels) (x % pixelLanes)) (x / pixelLanes) y
+      (fits .crop-height) (omega arith) l (λ c i a b. matted-same (x % pixelLanes) c i a b)
+
+  pub row-same : (y : ℕ) → y < p .target .height → rowOf p (sourceOf pixels) y ≡ rowOf (wholePlan p) (croppedOf p pixels) y
+  unfolding rowOf
+  row-same y l =
+      let v : ℕ → ℕ = scaledLane p (sourceOf pixels) y in
+      let w : ℕ → ℕ = scaledLane (wholePlan p) (croppedOf p pixels) y in
+      tabulate-cong (restoredPlace (p .layout) v) (restoredPlace (p .layout) w) (rowBytes (lanesOf p) (p .target .width))
+      (λ z u. restored-cong (p .layout) v w (p .target .width) z u (λ x h. lane-same y x l h))
+
+  -- the rows handed out, all of them there
+  module _ (rows : List (List ℕ)) (all : length rows ≡ p .target .height) (are : (y : ℕ) → y < p .target .height → getD rows y [] ≡ rowOf p (λ i. getD pixels i 0) y) where
+    pub crop-then-resize : joined rows ≡ resized (sizeOf (p .crop .width) (p .crop .height)) (p .layout) (p .target) (cropped (p .source) (p .crop) pixels)
+    unfolding resized
+    crop-then-resize =
+        rowsOf-joined p (sourceOf pixels) rows (p .target .height) all are
+        ∙ rowsOf-cong p (wholePlan p) (sourceOf pixels) (croppedOf p pixels) (p .target .height) row-same
+
+    pub crop-then-resize-flag : (f : Bool) → f ≡ hasAlpha (p .layout) (joined rows) (p .target .width * p .target .height)
+        → f ≡ resizedFlag (sizeOf (p .crop .width) (p .crop .height)) (p .layout) (p .target) (cropped (p .source) (p .crop) pixels)
+    unfolding resizedFlag
+    crop-then-resize-flag f flag =
+        flag ∙ ap (λ (s : List ℕ). hasAlpha (p .layout) s (p .target .width * p .target .height)) crop-then-resize
+
+-- ---- at the end of a list of calls, from what was counted
+module _ (p : Plan) (r : Run) (fits : Fits (p .source) (p .crop) (p .target)) (bytes : length (r .seen .source) ≡ rowBytes (lanesOf p) (p .source .width) * r .seen .accepted) (handed : length (r .seen .rows) ≡ r .seen .taken) (contents : (y : ℕ) → y < r .seen .taken → getD (r .seen .rows) y [] ≡ rowOf p (λ i. getD (r .seen .source) i 0) y) (at-end : r .seen .accepted ≡ p .source .height) (all-taken : r .seen .taken ≡ R p (p .source .height)) where
+  all-rows : r .seen .taken ≡ p .target .height
+  all-rows =
+      all-taken ∙ rows-all (p .crop .y) (p .crop .height) (p .target .height) (fits .crop-height) (p .source .height) (fits .bottom)
+
+  pub seen-whole : joined (r .seen .rows) ≡ resized (sizeOf (p .crop .width) (p .crop .height)) (p .layout) (p .target) (cropped (p .source) (p .crop) (r .seen .source))
+  seen-whole =
+      crop-then-resize p (r .seen .source) fits (rw at-end at bytes) (r .seen .rows) (handed ∙ all-rows) (λ y l. contents y (omega (arith, all-rows)))
+
+  pub seen-whole-flag : r .seen .flag ≡ hasAlpha (p .layout) (joined (r .seen .rows)) (p .target .width * r .seen .taken)
+      → r .seen .flag ≡ resizedFlag (sizeOf (p .crop .width) (p .crop .height)) (p .layout) (p .target) (cropped (p .source) (p .crop) (r .seen .source))
+  seen-whole-flag flag =
+      crop-then-resize-flag p (r .seen .source) fits (rw at-end at bytes) (r .seen .rows) (handed ∙ all-rows) (λ y l. contents y (omega (arith, all-rows)))
+      (r .seen .flag) (rw all-rows at flag)

@@ -1,0 +1,61 @@
+-- The rows of a preview as closed expressions of the source's bytes, b i being byte i (document 01, "A row comes in", "A row goes out" and "The list of demand 3").
+-- No call, no record and no work value is mentioned. Assumes nothing.
+use Prim.Native.Nat.{ℕ, zero, suc, _+_, _*_, _/_, _%_}
+use mathlib.Core.Bool.{Bool, false}
+use mathlib.Core.List.{List, [], _∷_, _++_}
+use lib.ListN.{getD}
+use Rattle.arithmetic.specs.Table.{tabulate}
+use Rattle.arithmetic.specs.Matte.{laneOf, pixelOf, multArgb}
+use Rattle.pixels.specs.declared.Dimensions.{Dimensions}
+use Rattle.pixels.specs.declared.Rect.{Rect}
+use Rattle.pixels_layout.specs.declared.PixelLayout.{PixelLayout}
+use Rattle.pixels.specs.Sizes.{pixelLanes, rowBytes, rectOf}
+use Rattle.pixels_layout.specs.Layout.{placeOf}
+use Rattle.pixels_layout.specs.Lanes.{restoredPlace}
+use Rattle.pixels_alpha.specs.Alpha.{hasAlpha}
+use Rattle.rows.specs.Closed.{scaled}
+use Rattle.job.specs.declared.Plan.{Plan}
+use Rattle.job.specs.Record.{lanesOf, planOf}
+
+-- lane k of crop row c, pixel i, as it stands in the source: "rows and columns counted from the crop's corner"
+abbrev pub sourceByte : Plan → (ℕ → ℕ) → ℕ → ℕ → ℕ → ℕ
+sourceByte p b c i k = b (rowBytes (lanesOf p) (p .source .width) * (p .crop .y + c) + (lanesOf p * (p .crop .x + i) + placeOf (p .layout) k))
+
+-- "The matted bytes are the accepted rows inside the crop after mult_argb (matte)"
+unfoldable pub mattedByte : Plan → (ℕ → ℕ) → ℕ → ℕ → ℕ → ℕ
+mattedByte p b k c i = laneOf (multArgb (pixelOf (sourceByte p b c i)) false) k
+
+-- the byte at place x of output row y, before it is restored: lane x % lanes, column x / lanes
+unfoldable pub scaledLane : Plan → (ℕ → ℕ) → ℕ → ℕ → ℕ
+scaledLane p b y x =
+    scaled (p .crop .width) (p .target .width) (p .crop .height) (p .target .height) (mattedByte p b (x % lanesOf p)) (x / lanesOf p) y
+
+-- output row y, "restored and packed"
+unfoldable pub rowOf : Plan → (ℕ → ℕ) → ℕ → List ℕ
+rowOf p b y = tabulate (restoredPlace (p .layout) (scaledLane p b y)) (rowBytes (lanesOf p) (p .target .width))
+
+-- rows one after another
+unfoldable pub joined : List (List ℕ) → List ℕ
+joined [] = []
+joined (row ∷ rows) = row ++ joined rows
+
+-- the first n output rows, one after another
+unfoldable pub rowsOf : Plan → (ℕ → ℕ) → ℕ → List ℕ
+rowsOf p b zero = []
+rowsOf p b (suc n) = rowsOf p b n ++ rowOf p b n
+
+-- ---- `resize`: "a job with the full crop"
+abbrev pub fullCrop : Dimensions → Rect
+fullCrop size = rectOf 0 0 (size .width) (size .height)
+
+abbrev pub resizePlan : Dimensions → PixelLayout → Dimensions → Plan
+resizePlan size layout target = planOf size layout (fullCrop size) target
+
+-- its pixels
+unfoldable pub resized : Dimensions → PixelLayout → Dimensions → List ℕ → List ℕ
+resized size layout target pixels = rowsOf (resizePlan size layout target) (λ i. getD pixels i 0) (target .height)
+
+-- its flag: "true if any alpha byte isn't 255"
+unfoldable pub resizedFlag : Dimensions → PixelLayout → Dimensions → List ℕ → Bool
+resizedFlag size layout target pixels =
+    hasAlpha layout (resized size layout target pixels) (target .width * target .height)

@@ -1,0 +1,64 @@
+-- The next row is taken into its place of the output. Assumes nothing.
+use Rattle.job_resize.proofs.Turning.{emits, end-less-start}
+use native.Mathlib.Omega.{arith}
+use mathlib.Core.Path.{sym, ap, _∙_}
+use borrow.Author.Needs.{needs}
+use Rattle.job_resize.proofs.emit.Statement.{statement}
+use Rattle.job_resize.proofs.emit.Tie as tie
+
+cast-size : tie.Need-cast-size
+cast-size c = search needs
+
+mul-size : tie.Need-mul-size
+mul-size c = search needs
+
+cast-at : tie.Need-cast-at
+cast-at c = search needs
+
+mul-at : tie.Need-mul-at
+mul-at c = search needs
+
+add-take : tie.Need-add-take
+add-take c = search needs
+
+sub-take : tie.Need-sub-take
+sub-take c = search needs
+
+part-take-start : tie.Need-part-take-start
+part-take-start c = search needs
+
+part-take-end : tie.Need-part-take-end
+part-take-end c = search needs
+
+take-requires : tie.Need-take-requires
+take-requires c κs = search needs
+
+after-take-requires : tie.Need-after-take-requires
+after-take-requires c κs = search needs
+
+same-length : tie.Need-same-length
+same-length c = search needs
+
+same-length-2 : tie.Need-same-length-2
+same-length-2 c = search needs
+
+returns : tie.Need-returns
+returns c = emits ((c .before .before .before .before .before .before .before .before .before .before .before .before .args) .job) ((c .before .before .before .before .before .before .before .before .before .before .before .before .args) .out .now) ((c .before .before .before .before .before .before .before .before .before .before .before .before .args) .work .now) _ (end-less-start _ _) ((c .before .before .before .before .before .before .before .before .before .before .before .before .pre)) _ ((c .after-take) .ensures ∙ (c .before .before .before .before .before .take) .ensures .1 .0) _ ((c .before .before .before .before .before .take) .ensures .1 .1 .0) _ ((c .before .before .before .before .before .take) .ensures .1 .1 .1)
+
+pub emit-spec : {M : Type 1} → statement M
+emit-spec =
+    tie.close
+    (tie.spec
+    cast-size
+    mul-size
+    cast-at
+    mul-at
+    add-take
+    sub-take
+    part-take-start
+    part-take-end
+    take-requires
+    after-take-requires
+    same-length
+    same-length-2
+    returns)

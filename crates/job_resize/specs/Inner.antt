@@ -1,0 +1,49 @@
+-- What the private functions of `resize` ask and ensure. Assumes nothing.
+use Prim.Native.Nat.{ℕ, _*_, _≤_}
+use mathlib.Core.Path.{_≡_}
+use mathlib.Core.Bool.{Bool, cond}
+use mathlib.Core.List.{List, _++_}
+use lib.Dec.{eqb}
+use lib.ListN.{length, getD, take, drop}
+use Rattle.arithmetic.specs.Table.{tabulate}
+use Rattle.pixels.specs.Sizes.{pixelLanes, rowBytes, halfValues, workValues, pictureBytes, Fits}
+use Rattle.pixels_alpha.specs.Alpha.{hasAlpha}
+use Rattle.job.specs.declared.Plan.{Plan}
+use Rattle.job.specs.declared.Job.{Job}
+use Rattle.job.specs.Record.{lanesOf, fresh, readyOf}
+use Rattle.job.specs.Calls.{cleared, offerJob, offerWork, takeOut}
+use Rattle.job_claim.specs.Rows.{rowsOf}
+use Rattle.job_resize.specs.Resize.{lastFirst, lastSecond}
+
+-- the source rows that the job has not accepted
+abbrev pub restOf : Job → List ℕ → List ℕ
+restOf j pixels = drop (rowBytes (lanesOf (j .plan)) (j .plan .source .width) * j .accepted) pixels
+
+-- where no row is ready, all of them are offered
+unfoldable pub fedJob : Job → List ℕ → ℕ → Job
+fedJob j pixels w = cond (eqb (readyOf j) 0) (offerJob j (length (restOf j pixels)) w) j
+
+unfoldable pub fedWork : Job → List ℕ → List ℕ → List ℕ
+fedWork j pixels work = cond (eqb (readyOf j) 0) (offerWork j (restOf j pixels) work) work
+
+-- the next row taken into its place of the output
+abbrev pub emittedOut : Job → List ℕ → List ℕ → List ℕ
+emittedOut j out work =
+    let size : ℕ = rowBytes (lanesOf (j .plan)) (j .plan .target .width) in
+    let from : List ℕ = drop (size * j .taken) out in
+    take (size * j .taken) out ++ (takeOut j (take size from) work ++ drop size from)
+
+-- a fresh job and buffers of the right length, the work rows as start leaves them
+pub record Asked (j : Job) (pixels out work : List ℕ) : Type 0 where
+  pub fresh-is : j ≡ fresh (j .plan)
+  pub sizes : Fits (j .plan .source) (j .plan .crop) (j .plan .target)
+  pub pixels-long : length pixels ≡ pictureBytes pixelLanes (j .plan .source .width) (j .plan .source .height)
+  pub out-long : length out ≡ pictureBytes pixelLanes (j .plan .target .width) (j .plan .target .height)
+  pub room : workValues (lanesOf (j .plan)) (j .plan .target .width) ≤ length work
+  pub clear : work ≡ cleared (j .plan) work
+
+-- the job at its end
+pub record Driven (p : Plan) (pixels work₀ : List ℕ) (flag : Bool) (out work : List ℕ) : Type 0 where
+  pub out-is : out ≡ rowsOf p (λ i. getD pixels i 0) (p .target .height)
+  pub flag-is : flag ≡ hasAlpha (p .layout) (rowsOf p (λ i. getD pixels i 0) (p .target .height)) (p .target .width * p .target .height)
+  pub work-is : work ≡ tabulate (lastFirst p (λ i. getD pixels i 0)) (halfValues (lanesOf p) (p .target .width)) ++ (tabulate (lastSecond p (λ i. getD pixels i 0)) (halfValues (lanesOf p) (p .target .width)) ++ drop (workValues (lanesOf p) (p .target .width)) work₀)

@@ -1,2 +1,0 @@
-pub mod Resize
-pub mod Steps

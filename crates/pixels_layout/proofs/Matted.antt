@@ -1,0 +1,44 @@
+-- What the scaler reads of a row of bytes: each lane of the matted pixel is a colour scaled by its alpha or the alpha itself, never above 255 nor above
+-- the alpha. What is packed again: the lanes of the restored pixel. Assumes nothing.
+use Prim.Native.Nat.{ℕ, _+_, _*_, _≤_, _<_}
+use mathlib.Core.Path.{_≡_, ap₂, _∙_}
+use mathlib.Core.List.{List}
+use mathlib.Core.Logic.{⊎-elim}
+use native.Mathlib.Omega.{arith}
+use native.Mathlib.Nat.{le-of-suc-le-suc, eq-or-lt-of-le, le-refl}
+use lib.ListN.{getD}
+use Rattle.arithmetic.specs.Matte.{laneOf, scaleColour, matteFactor}
+use Rattle.arithmetic.proofs.Mattes.{lane-byte, matte-colour, matte-alpha, matte-within}
+use Rattle.pixels_layout.specs.declared.PixelLayout.{PixelLayout}
+use Rattle.pixels.specs.Sizes.{pixelLanes}
+use Rattle.pixels_layout.specs.Layout.{placeOf, alphaLane, laneAt, alphaAt, pixelAt}
+use Rattle.pixels_layout.specs.Lanes.{matted, restoredPixel, restoredPlace}
+use Rattle.pixels_layout.proofs.Packing.{pixelAt-lane, packed-byte}
+
+pub matted-byte : (l : PixelLayout) (s : List ℕ) (k i : ℕ) → matted l s k i ≤ 255
+unfolding matted
+matted-byte l s k i = lane-byte _ k
+
+-- no colour is above its alpha
+pub matted-under : (l : PixelLayout) (s : List ℕ) (k i : ℕ) → k < pixelLanes → matted l s k i ≤ matted l s alphaLane i
+unfolding matted
+matted-under l s k i h =
+    ⊎-elim (λ e. rw e (le-refl _)) (λ lt. matte-within (pixelAt l s i) k lt) (eq-or-lt-of-le (le-of-suc-le-suc h))
+
+module _ (l : PixelLayout) (s : List ℕ) (bytes : (x : ℕ) → getD s x 0 ≤ 255) (i : ℕ) where
+  -- a colour is scaled by the factor of the alpha beside it
+  pub matted-colour : (k : ℕ) → k < alphaLane → matted l s k i ≡ scaleColour (laneAt l s i k) (matteFactor (alphaAt l s i))
+  unfolding matted
+  matted-colour k h =
+      matte-colour (pixelAt l s i) k h
+      ∙ ap₂ (λ (x a : ℕ). scaleColour x (matteFactor a)) (pixelAt-lane l s i k bytes (omega arith)) (pixelAt-lane l s i alphaLane bytes (omega arith))
+
+  -- "alpha bytes are as offered"
+  pub matted-alpha : matted l s alphaLane i ≡ alphaAt l s i
+  unfolding matted
+  matted-alpha = matte-alpha (pixelAt l s i) ∙ pixelAt-lane l s i alphaLane bytes (omega arith)
+
+-- the byte at place j of pixel i of a restored row
+pub restored-byte : (l : PixelLayout) (v : ℕ → ℕ) (i j : ℕ) → j < pixelLanes → restoredPlace l v (pixelLanes * i + j) ≡ laneOf (restoredPixel v i) (placeOf l j)
+unfolding restoredPlace
+restored-byte l v i j h = packed-byte l (restoredPixel v) i j h

@@ -1,0 +1,64 @@
+-- Four stores one after another are one stretch. Assumes nothing.
+use Rattle.arithmetic.proofs.Stretches.{put-four}
+use native.Mathlib.Omega.{arith}
+use lib.ListN.{length-set}
+use borrow.Author.Needs.{needs}
+use Rattle.pixels_packing.proofs.put.Statement.{statement}
+use Rattle.pixels_packing.proofs.put.Tie as tie
+
+array-read-out : tie.Need-array-read-out
+array-read-out c = search needs
+
+slice-write-out : tie.Need-slice-write-out
+slice-write-out c = search needs
+
+array-read-out-2 : tie.Need-array-read-out-2
+array-read-out-2 c = search needs
+
+add-out : tie.Need-add-out
+add-out c = search needs
+
+slice-write-out-2 : tie.Need-slice-write-out-2
+slice-write-out-2 c = simp length-set (omega arith)
+
+array-read-out-3 : tie.Need-array-read-out-3
+array-read-out-3 c = search needs
+
+add-out-2 : tie.Need-add-out-2
+add-out-2 c = search needs
+
+slice-write-out-3 : tie.Need-slice-write-out-3
+slice-write-out-3 c = simp length-set (omega arith)
+
+array-read-out-4 : tie.Need-array-read-out-4
+array-read-out-4 c = search needs
+
+add-out-3 : tie.Need-add-out-3
+add-out-3 c = search needs
+
+slice-write-out-4 : tie.Need-slice-write-out-4
+slice-write-out-4 c = simp length-set (omega arith)
+
+same-length : tie.Need-same-length
+same-length c = search needs
+
+returns : tie.Need-returns
+returns c = put-four (c .args .out .now) (c .args .t3) (c .args .at) (c .pre .1) (c .pre .0)
+
+pub put-spec : {M : Type 1} → statement M
+put-spec =
+    tie.close
+    (tie.spec
+    array-read-out
+    slice-write-out
+    array-read-out-2
+    add-out
+    slice-write-out-2
+    array-read-out-3
+    add-out-2
+    slice-write-out-3
+    array-read-out-4
+    add-out-3
+    slice-write-out-4
+    same-length
+    returns)

@@ -1,1 +1,0 @@
-// What is true of the definitions of rows: no code.

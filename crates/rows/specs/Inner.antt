@@ -1,0 +1,2 @@
+-- What only private functions ask and ensure: no public promise rests on it.
+pub mod Import

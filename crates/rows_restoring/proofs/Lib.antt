@@ -1,0 +1,2 @@
+pub mod RestoredPixels
+pub mod RestoreRow

@@ -1,0 +1,157 @@
+// Pixels of an output row are restored and packed (document 01, "A row goes out" and "Lanes"; the Rust: mult_argb with `inverse` and pack_pixels;
+// libwebp's WebPMultARGBRow_C). In place, in passes: restore where a pixel isn't opaque, then the byte order.
+use arithmetic::mult_argb;
+use pixels::Checked;
+use pixels::Flagged;
+use pixels::PIXEL_LANES;
+use pixels::Refusal;
+use pixels::bad_side;
+use pixels_layout::PixelLayout;
+ghost use mathlib.Core.Path.{_≡_};
+ghost use mathlib.Core.Bool.{_||_, not};
+ghost use Prim.Native.Nat.{_+_, _*_, _^_, _≤_};
+ghost use lib.Dec.{eqb};
+ghost use lib.ListN.{length, getD};
+ghost use Rattle.arithmetic.specs.Matte.{laneOf};
+ghost use Rattle.arithmetic.specs.Table.{tabulate};
+ghost use Rattle.pixels.specs.Refusals.{checkedNumber, flaggedNumber, flaggedFlag};
+ghost use Rattle.pixels.specs.Sizes.{pixelLanes, rowBytes};
+ghost use Rattle.pixels_layout.specs.Layout.{alphaLane};
+ghost use Rattle.pixels_layout.specs.Lanes.{restoredPlace};
+ghost use Rattle.rows_restoring.specs.Restoring.{restoreNumber, restoredOut, rowFlag};
+ghost use Rattle.rows_restoring.specs.Inner.Restoring.{restoredAt, putLanes, orderedByte, clearAfter};
+
+fn either(a: bool, b: bool) -> bool
+    ensures { λ r. ⌜ r ≡ (a || b) ⌝ }
+{
+    if a {
+        return true;
+    }
+    b
+}
+
+// The pixel AARRGGBB of its four lanes.
+fn word(b: u8, g: u8, r: u8, a: u8) -> u32
+    ensures { λ n. ⌜ n ≡ b + 2 ^ 8 * g + 2 ^ 16 * r + 2 ^ 24 * a ⌝ }
+{
+    b as u32 + 256 * g as u32 + 65536 * r as u32 + 16777216 * a as u32
+}
+
+// Stores the lanes of a pixel from at on.
+fn put_word(out: &mut [u8], at: usize, argb: u32)
+    requires { ⌜ at + pixelLanes ≤ length (now out) ⌝ }
+    ensures { λ _. ⌜ now (out .exit) ≡ putLanes (now (out .entry)) at (laneOf argb) ⌝ }
+{
+    out[at] = (argb % 256) as u8;
+    out[at + 1] = (argb / 256 % 256) as u8;
+    out[at + 2] = (argb / 65536 % 256) as u8;
+    out[at + 3] = (argb / 16777216) as u8;
+}
+
+// Restores the pixel at `at`; whether its alpha isn't 255 then: a spill can change the alpha.
+fn restore_pixel(out: &mut [u8], at: usize) -> bool
+    requires { ⌜ at + pixelLanes ≤ length (now out) ⌝ }
+    ensures flag { λ r. ⌜ r ≡ not (eqb (laneOf (restoredAt (now (out .entry)) at) alphaLane) 255) ⌝ }
+    ensures out { λ _. ⌜ now (out .exit) ≡ putLanes (now (out .entry)) at (laneOf (restoredAt (now (out .entry)) at)) ⌝ }
+{
+    if out[at + 3] == 255 {
+        return false;
+    }
+    let argb = mult_argb(word(out[at], out[at + 1], out[at + 2], out[at + 3]), true);
+    put_word(out, at, argb);
+    argb / 16777216 != 255
+}
+
+// Restores m pixels; whether some of them isn't opaque then.
+fn restore_lanes(out: &mut [u8], m: usize) -> bool
+    requires { ⌜ length (now out) ≡ rowBytes pixelLanes m ⌝ }
+    ensures flag { λ r. ⌜ r ≡ clearAfter (now (out .entry)) m ⌝ }
+    ensures out { λ _. ⌜ now (out .exit) ≡ tabulate (restoredPlace PixelLayout.Bgra8 (λ x. getD (now (out .entry)) x 0)) (rowBytes pixelLanes m) ⌝ }
+{
+    let mut clear = false;
+    let mut j = 0usize;
+    while j < m {
+        clear = either(clear, restore_pixel(out, PIXEL_LANES * j));
+        j += 1;
+    }
+    clear
+}
+
+// B, G, R, A to R, G, B, A.
+fn swap_lanes(out: &mut [u8], m: usize)
+    requires { ⌜ length (now out) ≡ rowBytes pixelLanes m ⌝ }
+    ensures { λ _. ⌜ now (out .exit) ≡ tabulate (orderedByte PixelLayout.Rgba8 (now (out .entry))) (rowBytes pixelLanes m) ⌝ }
+{
+    let mut j = 0usize;
+    while j < m {
+        let at = PIXEL_LANES * j;
+        let b = out[at];
+        out[at] = out[at + 2];
+        out[at + 2] = b;
+        j += 1;
+    }
+}
+
+// B, G, R, A to A, R, G, B.
+fn reverse_lanes(out: &mut [u8], m: usize)
+    requires { ⌜ length (now out) ≡ rowBytes pixelLanes m ⌝ }
+    ensures { λ _. ⌜ now (out .exit) ≡ tabulate (orderedByte PixelLayout.Argb8 (now (out .entry))) (rowBytes pixelLanes m) ⌝ }
+{
+    let mut j = 0usize;
+    while j < m {
+        let at = PIXEL_LANES * j;
+        let b = out[at];
+        let g = out[at + 1];
+        let r = out[at + 2];
+        out[at] = out[at + 3];
+        out[at + 1] = r;
+        out[at + 2] = g;
+        out[at + 3] = b;
+        j += 1;
+    }
+}
+
+// The byte order of a layout.
+fn order_lanes(layout: PixelLayout, out: &mut [u8], m: usize)
+    requires { ⌜ length (now out) ≡ rowBytes pixelLanes m ⌝ }
+    ensures { λ _. ⌜ now (out .exit) ≡ tabulate (orderedByte layout (now (out .entry))) (rowBytes pixelLanes m) ⌝ }
+{
+    match layout {
+        PixelLayout::Rgba8 => swap_lanes(out, m),
+        PixelLayout::Argb8 => reverse_lanes(out, m),
+        PixelLayout::Bgra8 => {}
+    }
+}
+
+// The tests, in the order of their numbers, of a row of `out` bytes.
+fn check_restore(target_width: u32, out: usize) -> Checked
+    ensures { λ r. ⌜ checkedNumber r ≡ restoreNumber «target_width» out ⌝ }
+{
+    if bad_side(target_width as u64) {
+        return Checked::Refused(Refusal::InvalidDimensions);
+    }
+    if out != PIXEL_LANES * target_width as usize {
+        return Checked::Refused(Refusal::OutputLength);
+    }
+    Checked::Fit
+}
+
+// Restores a row of lanes B, G, R, A in place and packs it. The Rust: mult_argb with `inverse` and pack_pixels after Rescaler::export_row.
+// Rules out: a restored colour cut off at 255; two lanes exchanged; a flag that looks at a colour, or at the alpha before a spill.
+pub fn restore_row(layout: PixelLayout, target_width: u32, out: &mut [u8]) -> Flagged
+    ensures number { λ r. ⌜ flaggedNumber r ≡ restoreNumber «target_width» (length (now (out .entry))) ⌝ }
+    ensures flag { λ r. ⌜ flaggedFlag r ≡ rowFlag layout «target_width» (now (out .entry)) ⌝ }
+    ensures out { λ _. ⌜ now (out .exit) ≡ restoredOut layout «target_width» (now (out .entry)) ⌝ }
+{
+    let checked = check_restore(target_width, out.len());
+    match checked {
+        Checked::Refused(why) => {
+            return Flagged::Refused(why);
+        }
+        Checked::Fit => {}
+    }
+    let m = target_width as usize;
+    let flag = restore_lanes(out, m);
+    order_lanes(layout, out, m);
+    Flagged::Flag(flag)
+}

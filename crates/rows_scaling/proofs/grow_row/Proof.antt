@@ -1,0 +1,115 @@
+-- `grow_row` meets its contract: d is in its range, so it fits; each half lies in the work rows, and the loops' b and factor are document 01's. Assumes nothing.
+use Rattle.rows_scaling.proofs.Factors.{factor-half, grow-room, grow-out, level-out}
+use Rattle.rows_scaling.proofs.RestRange.{up-some, up-low, up-high}
+use Rattle.rows_scaling.specs.Inner.Scaling.{scaleIn}
+use Rattle.arithmetic.proofs.Products.{most}
+use Rattle.pixels.proofs.Truths.{not-true}
+use borrow.Author.Tests.{eqb-false}
+use Prim.Native.Nat.{_-_}
+use native.Mathlib.Omega.{arith}
+use borrow.Author.Needs.{needs}
+use Rattle.rows_scaling.proofs.grow_row.Statement.{statement}
+use Rattle.rows_scaling.proofs.grow_row.Tie as tie
+
+sub-d : tie.Need-sub-d
+sub-d c = let p = c .before .before .pre in omega (arith, up-some (p .0) (p .1 .0))
+
+cast-d : tie.Need-cast-d
+cast-d c = search needs
+
+sub-d-2 : tie.Need-sub-d-2
+sub-d-2 c = search needs
+
+cast-d-2 : tie.Need-cast-d-2
+cast-d-2 c = search needs
+
+mul-d : tie.Need-mul-d
+mul-d c = let a = c .before .before .before .args in omega (arith, most {x = a .used - 1} {y = a .s .g - 1} (omega arith) (omega arith))
+
+sub-d-3 : tie.Need-sub-d-3
+sub-d-3 c = search needs
+
+cast-d-3 : tie.Need-cast-d-3
+cast-d-3 c = search needs
+
+mul-d-2 : tie.Need-mul-d-2
+mul-d-2 c = let a = c .before .before .before .before .args in omega (arith, most {x = a .row} {y = a .s .h - 1} (omega arith) (omega arith))
+
+sub-d-4 : tie.Need-sub-d-4
+sub-d-4 c = let p = c .before .before .before .before .pre in omega (arith, up-low (p .0) (p .1 .0))
+
+cast-d-4 : tie.Need-cast-d-4
+cast-d-4 c = let p = c .before .before .before .before .pre in omega (arith, up-low (p .0) (p .1 .0), up-high (p .0) (p .1 .0))
+
+sub-frac : tie.Need-sub-frac
+sub-frac c = search needs
+
+frac-requires : tie.Need-frac-requires
+frac-requires c κs = search needs
+
+frac-requires-2 : tie.Need-frac-requires-2
+frac-requires-2 c κs = search needs
+
+sub-half-of : tie.Need-sub-half-of
+sub-half-of c = let p = c .before .before .before .before .before .before .before .pre in omega (arith, up-some (p .0) (p .1 .0))
+
+half-of-requires : tie.Need-half-of-requires
+half-of-requires c κs = search needs
+
+half-of-requires-2 : tie.Need-half-of-requires-2
+half-of-requires-2 c κs = search needs
+
+level-lanes-requires : tie.Need-level-lanes-requires
+level-lanes-requires c κs = let u = c .before .before .before .before .before .before .before .before .before .before .before .before .args .used in (
+  grow-room (u - 1) (u - 1) (c .before .before .before .before .before .before .before .before .before .before .before .before .pre .1 .1) (c .before .before .before .before .half-of .ensures) (c .before .before .before .before .half-of .ensures),
+  λ t. rw (c .before .before .before .before .before .frac2 .ensures) (factor-half (c .before .before .before .before .before .before .before .before .before .before .before .before .args .s .span) (eqb-false _ _ (not-true _ t))),
+)
+
+same-length : tie.Need-same-length
+same-length c = search needs
+
+returns : tie.Need-returns
+returns c = let a = c .before .before .before .before .before .before .before .before .before .before .before .before .before .before .before .args in
+    level-out (scaleIn (a .s)) (a .used) (a .row) (a .work .now) (c .before .before .before .before .before .before .before .before .before .before .before .before .before .before .before .pre .1 .0) (c .before .before .before .before .before .before .before .before .before .frac .ensures) (c .before .before .before .before .before .before .before .before .frac2 .ensures)
+    (c .before .before .before .before .before .before .before .half-of .ensures) (c .before .before .before .before .before .before .half-of2 .ensures) (c .before .before .before .before .if1 .taken) (c .before .before .level-lanes .ensures)
+
+blend-lanes-requires : tie.Need-blend-lanes-requires
+blend-lanes-requires c κs = let u = c .before .before .before .before .before .before .before .before .before .before .before .before .args .used in (
+  grow-room (u - 1) u (c .before .before .before .before .before .before .before .before .before .before .before .before .pre .1 .1) (c .before .before .before .before .half-of .ensures) (c .before .before .before .half-of2 .ensures),
+  (omega (arith, c .before .if1 .left), λ t. rw (c .before .before .before .before .before .frac2 .ensures) (factor-half (c .before .before .before .before .before .before .before .before .before .before .before .before .args .s .span) (eqb-false _ _ (not-true _ t)))),
+)
+
+same-length-2 : tie.Need-same-length-2
+same-length-2 c = search needs
+
+returns-2 : tie.Need-returns-2
+returns-2 c = let a = c .before .before .before .before .before .before .before .before .before .before .before .before .before .before .before .args in
+    grow-out (scaleIn (a .s)) (a .used) (a .row) (a .work .now) (c .before .before .before .before .before .before .before .before .before .before .before .before .before .before .before .pre .1 .0) (c .before .before .before .before .before .before .before .before .before .frac .ensures) (c .before .before .before .before .before .before .before .before .frac2 .ensures)
+    (c .before .before .before .before .before .before .before .half-of .ensures) (c .before .before .before .before .before .before .half-of2 .ensures) (c .before .before .blend-lanes .ensures)
+
+pub grow-row-spec : {M : Type 1} → statement M
+grow-row-spec =
+    tie.close
+    (tie.spec
+    sub-d
+    cast-d
+    sub-d-2
+    cast-d-2
+    mul-d
+    sub-d-3
+    cast-d-3
+    mul-d-2
+    sub-d-4
+    cast-d-4
+    sub-frac
+    frac-requires
+    frac-requires-2
+    sub-half-of
+    half-of-requires
+    half-of-requires-2
+    level-lanes-requires
+    same-length
+    returns
+    blend-lanes-requires
+    same-length-2
+    returns-2)

@@ -1,0 +1,296 @@
+// A row goes out (document 01; the Rust: Rescaler::export_row of geometry.rs, libwebp's WebPRescalerExportRow). Work values may be anything:
+// differences wrap, products are taken in 64 bits.
+use arithmetic::frac;
+use arithmetic::mult_fix;
+use arithmetic::mult_fix_floor;
+use arithmetic::wrapping_mul;
+use pixels::Checked;
+use pixels::Dimensions;
+use pixels::PIXEL_LANES;
+use pixels::Refusal;
+use pixels::bad_size;
+use rows_due::due;
+use std::num::wrapping_sub_u32;
+ghost use mathlib.Core.Path.{_≡_};
+ghost use mathlib.Core.List.{_++_};
+ghost use Prim.Native.Nat.{_+_, _*_, _^_, _≤_, _<_};
+ghost use lib.Dec.{ltb};
+ghost use lib.ListN.{length, drop};
+ghost use Rattle.arithmetic.specs.Word.{wrapMul};
+ghost use Rattle.arithmetic.specs.FixedPoint.{FRAC};
+ghost use Rattle.arithmetic.specs.Table.{tabulate};
+ghost use Rattle.arithmetic.specs.Weight as weight;
+ghost use Rattle.pixels.specs.Refusals.{checkedNumber};
+ghost use Rattle.rows.specs.Output.{clamp, restDown, ratio, mixed};
+ghost use Rattle.rows.specs.WorkRows.{halfOf, byteOut, rowLeft};
+ghost use Rattle.rows_scaling.specs.Scaling.{scaleNumber, scaledOut, scaledWork};
+ghost use Rattle.rows_scaling.specs.Inner.Scaling.{scaleIn, RowAsks, RoomAsks, GrowAsks, Halved, shrinkLeft, shrinkByte, lowByte, growByte};
+
+// What rows are scaled by: document 01's span, crop height h and target height g, and w, the values of a half.
+struct RowScale {
+    span: u32,
+    h: u32,
+    g: u32,
+    w: usize,
+}
+
+// v, at most 255. Where v is below 2^31 the two signed tests become one saturating pack of many values; `signed` is the same for a whole row, so the
+// loops are compiled once for each.
+fn byte_of(v: u32, signed: bool) -> u8
+    requires { ⌜ Halved signed v ⌝ }
+    ensures { λ r. ⌜ r ≡ clamp v ⌝ }
+{
+    if signed {
+        let s = v as i32;
+        if s > 255 {
+            return 255;
+        }
+        if s < 0 {
+            return 0;
+        }
+        return s as u8;
+    }
+    if v > 255 {
+        return 255;
+    }
+    v as u8
+}
+
+// Heights that do not grow: f of each value of the second half replaces the first half, and the byte is made of their difference. The loop of
+// export_row_shrink.
+fn shrink_lanes(work: &mut [u32], w: usize, step: u32, q: u32, signed: bool, out: &mut [u8])
+    requires { ⌜ RoomAsks (now work) (now out) w ⌝ }
+    requires { ⌜ Halved signed q ⌝ }
+    ensures out { λ _. ⌜ now (out .exit) ≡ tabulate (shrinkByte step q w (now (work .entry))) w ⌝ }
+    ensures work { λ _. ⌜ now (work .exit) ≡ tabulate (shrinkLeft step w (now (work .entry))) w ++ drop w (now (work .entry)) ⌝ }
+{
+    let mut k = 0usize;
+    while k < w {
+        let f = mult_fix_floor(work[w + k], step);
+        out[k] = byte_of(mult_fix(wrapping_sub_u32(work[k], f), q), signed);
+        work[k] = f;
+        k += 1;
+    }
+}
+
+// The ratio 2^32, which no word holds: the first half's low bytes go out, and it becomes 0. The Rust's export_row_special.
+fn take_lanes(work: &mut [u32], w: usize, out: &mut [u8])
+    requires { ⌜ RoomAsks (now work) (now out) w ⌝ }
+    ensures out { λ _. ⌜ now (out .exit) ≡ tabulate (lowByte (now (work .entry))) w ⌝ }
+    ensures work { λ _. ⌜ now (work .exit) ≡ tabulate (λ x. 0) w ++ drop w (now (work .entry)) ⌝ }
+{
+    let mut k = 0usize;
+    while k < w {
+        out[k] = (work[k] % 256) as u8;
+        work[k] = 0;
+        k += 1;
+    }
+}
+
+// Heights that grow, d = 0: the newer row alone, from place `new` on. The first loop of export_row_expand.
+fn level_lanes(work: &[u32], new: usize, w: usize, factor: u32, signed: bool, out: &mut [u8])
+    requires { ⌜ GrowAsks (now work) new new (now out) w ⌝ }
+    requires { ⌜ Halved signed factor ⌝ }
+    ensures { λ _. ⌜ now (out .exit) ≡ tabulate (growByte 0 factor (now (work .entry)) new new) w ⌝ }
+{
+    let mut k = 0usize;
+    while k < w {
+        out[k] = byte_of(mult_fix(work[new + k], factor), signed);
+        k += 1;
+    }
+}
+
+// (a×newer + b×older + 2^31) / 2^32 with a + b = 2^32.
+fn blended(newer: u32, older: u32, a: u32, b: u32) -> u32
+    requires { ⌜ a + b ≡ 2 ^ 32 ⌝ }
+    ensures { λ r. ⌜ r ≡ mixed b newer older ⌝ }
+{
+    ((a as u64 * newer as u64 + b as u64 * older as u64 + 2147483648) / 4294967296) as u32
+}
+
+// Heights that grow: the newer row and the older one, from places `new` and `old` on, blended, b of the older. The second loop of export_row_expand.
+fn blend_lanes(
+    work: &[u32],
+    new: usize,
+    old: usize,
+    w: usize,
+    b: u32,
+    factor: u32,
+    signed: bool,
+    out: &mut [u8],
+)
+    requires { ⌜ GrowAsks (now work) new old (now out) w ⌝ }
+    requires { ⌜ 0 < b ⌝ }
+    requires { ⌜ Halved signed factor ⌝ }
+    ensures { λ _. ⌜ now (out .exit) ≡ tabulate (growByte b factor (now (work .entry)) new old) w ⌝ }
+{
+    let a = (4294967296u64 - b as u64) as u32;
+    let mut k = 0usize;
+    while k < w {
+        let j = blended(work[new + k], work[old + k], a, b);
+        out[k] = byte_of(mult_fix(j, factor), signed);
+        k += 1;
+    }
+}
+
+// The half of the work rows that crop row c goes to, where the height grows.
+fn half_of(w: usize, c: u32) -> usize
+    ensures { λ r. ⌜ r ≡ halfOf w c ⌝ }
+{
+    if c % 2 == 0 {
+        return w;
+    }
+    0
+}
+
+// Document 01's span.
+fn span(n: u32, m: u32) -> u32
+    ensures { λ r. ⌜ r ≡ weight.span n m ⌝ }
+{
+    if m <= n {
+        return n;
+    }
+    m - 1
+}
+
+// The factor that f of each value is taken by: FRAC(1,g)×d modulo 2^32. FLOOR with the factor 0 is 0, so that d = 0 is no case of its own.
+fn share_step(s: RowScale, used: u32, row: u32) -> u32
+    requires { ⌜ RowAsks (scaleIn s) used row ⌝ }
+    requires { ⌜ s .g ≤ s .h ⌝ }
+    ensures { λ r. ⌜ r ≡ wrapMul (FRAC 1 (s .g)) (restDown (s .h) (s .g) used row) ⌝ }
+{
+    let d = (used as u64 * s.g as u64 - (row as u64 + 1) * s.h as u64) as u32;
+    wrapping_mul(frac(1, s.g), d)
+}
+
+// q, which is 2^32 at the most.
+fn ratio_of(s: RowScale) -> u64
+    requires { ⌜ (1 ≤ s .span) × (1 ≤ s .h) ⌝ }
+    ensures { λ r. ⌜ r ≡ ratio (s .span) (s .h) (s .g) ⌝ }
+{
+    s.g as u64 * 4294967296 / (s.span as u64 * s.h as u64)
+}
+
+// Whether q is below 2^31. The sizes are tested, and not q: a compiler that knew the ratio below 2^31 would drop the signed test of `byte_of`, and the
+// saturating pack with it.
+fn below_half(s: RowScale) -> bool
+    ensures { λ r. ⌜ r ≡ ltb (2 * s .g) (s .span * s .h) ⌝ }
+{
+    2 * (s.g as u64) < s.span as u64 * s.h as u64
+}
+
+// The height does not grow. The Rust: Rescaler::export_row_shrink, and export_row_special where q is 2^32.
+fn shrink_row(s: RowScale, used: u32, row: u32, out: &mut [u8], work: &mut [u32])
+    requires { ⌜ RowAsks (scaleIn s) used row ⌝ }
+    requires { ⌜ s .g ≤ s .h ⌝ }
+    requires { ⌜ RoomAsks (now work) (now out) (s .w) ⌝ }
+    ensures out { λ _. ⌜ now (out .exit) ≡ tabulate (byteOut (scaleIn s) used row (now (work .entry))) (s .w) ⌝ }
+    ensures work { λ _. ⌜ now (work .exit) ≡ rowLeft (scaleIn s) used row (now (work .entry)) ⌝ }
+{
+    let step = share_step(s, used, row);
+    let q = ratio_of(s);
+    let w = s.w;
+    if q == 4294967296 {
+        take_lanes(work, w, out);
+        return;
+    }
+    shrink_lanes(work, w, step, q as u32, below_half(s), out);
+}
+
+// The height grows: the Rust's export_row_expand; no work value changes. The factor is 2^31 or more for span 2 alone, which is tested for the same
+// reason.
+fn grow_row(s: RowScale, used: u32, row: u32, out: &mut [u8], work: &[u32])
+    requires { ⌜ RowAsks (scaleIn s) used row ⌝ }
+    requires { ⌜ s .h < s .g ⌝ }
+    requires { ⌜ RoomAsks (now work) (now out) (s .w) ⌝ }
+    ensures { λ _. ⌜ now (out .exit) ≡ tabulate (byteOut (scaleIn s) used row (now (work .entry))) (s .w) ⌝ }
+{
+    let d = ((used - 1) as u64 * (s.g - 1) as u64 - row as u64 * (s.h - 1) as u64) as u32;
+    let b = frac(d, s.g - 1);
+    let factor = frac(1, s.span);
+    let w = s.w;
+    let new = half_of(w, used - 1);
+    let old = half_of(w, used);
+    let signed = s.span != 2;
+    if b == 0 {
+        level_lanes(work, new, w, factor, signed, out);
+        return;
+    }
+    blend_lanes(work, new, old, w, b, factor, signed, out);
+}
+
+// Makes a row of w values, whatever the lanes of its pixels. The Rust: Rescaler::export_row.
+fn make_row(s: RowScale, used: u32, row: u32, out: &mut [u8], work: &mut [u32])
+    requires { ⌜ RowAsks (scaleIn s) used row ⌝ }
+    requires { ⌜ RoomAsks (now work) (now out) (s .w) ⌝ }
+    ensures out { λ _. ⌜ now (out .exit) ≡ tabulate (byteOut (scaleIn s) used row (now (work .entry))) (s .w) ⌝ }
+    ensures work { λ _. ⌜ now (work .exit) ≡ rowLeft (scaleIn s) used row (now (work .entry)) ⌝ }
+{
+    if s.g <= s.h {
+        shrink_row(s, used, row, out, work);
+        return;
+    }
+    grow_row(s, used, row, out, work);
+}
+
+// The tests, in the order of their numbers, of an output of `out` bytes and `work` work values.
+fn check_scale(
+    crop: Dimensions,
+    target: Dimensions,
+    used: u32,
+    row: u32,
+    out: usize,
+    work: usize,
+) -> Checked
+    ensures { λ r. ⌜ checkedNumber r ≡ scaleNumber crop target used row out work ⌝ }
+{
+    if bad_size(crop) {
+        return Checked::Refused(Refusal::InvalidDimensions);
+    }
+    if bad_size(target) {
+        return Checked::Refused(Refusal::InvalidDimensions);
+    }
+    let w = PIXEL_LANES * target.width as usize;
+    let both = 2 * w;
+    if out != w {
+        return Checked::Refused(Refusal::OutputLength);
+    }
+    if work < both {
+        return Checked::Refused(Refusal::WorkLength);
+    }
+    if !due(crop.height, target.height, used, row) {
+        return Checked::Refused(Refusal::NoneReady);
+    }
+    Checked::Fit
+}
+
+// Makes output row `row` (document 01's Y) of a crop of which `used` rows came in, as lanes B, G, R, A that are not restored yet.
+// The Rust: Rescaler::export_row. Rules out: f rounded to the nearest; a difference that saturates; a row made before its crop rows are in.
+pub fn scale_row(
+    crop: Dimensions,
+    target: Dimensions,
+    used: u32,
+    row: u32,
+    out: &mut [u8],
+    work: &mut [u32],
+) -> Checked
+    ensures number { λ r. ⌜ checkedNumber r ≡ scaleNumber crop target used row (length (now (out .entry))) (length (now (work .entry))) ⌝ }
+    ensures out { λ _. ⌜ now (out .exit) ≡ scaledOut crop target used row (now (out .entry)) (now (work .entry)) ⌝ }
+    ensures work { λ _. ⌜ now (work .exit) ≡ scaledWork crop target used row (length (now (out .entry))) (now (work .entry)) ⌝ }
+{
+    let checked = check_scale(crop, target, used, row, out.len(), work.len());
+    match checked {
+        Checked::Refused(why) => {
+            return Checked::Refused(why);
+        }
+        Checked::Fit => {}
+    }
+    let s = RowScale {
+        span: span(crop.width, target.width),
+        h: crop.height,
+        g: target.height,
+        w: PIXEL_LANES * target.width as usize,
+    };
+    make_row(s, used, row, out, work);
+    Checked::Fit
+}

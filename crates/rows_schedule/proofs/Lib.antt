@@ -1,0 +1,4 @@
+pub mod Made
+pub mod Crop
+pub mod Needed
+pub mod Counts
