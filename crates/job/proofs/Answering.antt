@@ -16,7 +16,7 @@ use Rattle.job.specs.declared.Plan.{Plan}
 use Rattle.job.specs.declared.Job.{Job}
 use Rattle.job.specs.Record.{lanesOf, R, fresh, Rules}
 use Rattle.job.specs.Calls.{startNumber, startWork, mostRows, offerNumber, offerRows, offerJob, offerWork, count, moreAccepted, fed, takeNumber, takeJob, takeOut, takeWork, moreTaken, rowTaken, workTaken}
-use Rattle.job.proofs.Counting.{counted-most}
+use Rattle.rows_due.proofs.Counting.{counted-most}
 use Rattle.job.proofs.Views.{offer-went, offer-turned, take-went, take-turned}
 
 -- ---- start

@@ -1,10 +1,8 @@
 pub mod Rules
-pub mod Counting
 pub mod Views
 pub mod Answering
 pub mod RowIn
-pub mod Restoring
-pub mod Accepting
+pub mod Feeding
 pub mod RowOut
 pub mod Lengths
 pub mod Testing

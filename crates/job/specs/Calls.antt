@@ -14,8 +14,10 @@ use Rattle.pixels_layout.specs.Lanes.{matted, restoredPlace}
 use Rattle.pixels_alpha.specs.Alpha.{hasAlpha}
 use Rattle.pixels_crop.specs.Crop.{windowOf, pictureRow}
 use Rattle.rows_schedule.specs.Schedule.{used}
+use Rattle.rows_due.specs.Until.{counted}
 use Rattle.rows.specs.Lanes.{rowValue}
 use Rattle.rows.specs.WorkRows.{Scale, rowIn, byteOut, rowLeft}
+use Rattle.rows_in.specs.In.{inCrop}
 use Rattle.job.specs.declared.Plan.{Plan}
 use Rattle.job.specs.declared.Job.{Job}
 use Rattle.job.specs.Record.{lanesOf, R, lawful}
@@ -54,10 +56,6 @@ scaleBy p = record {
   w = halfValues (lanesOf p) (p .target .width);
 }
 
--- source row s is inside the crop's height
-abbrev pub inCrop : Plan → ℕ → Bool
-inCrop p s = leb (p .crop .y) s && ltb s (p .crop .y + p .crop .height)
-
 -- the values of a source row: its crop window, matted, each lane alone
 abbrev pub valuesOf : Plan → List ℕ → ℕ → ℕ
 valuesOf p row =
@@ -66,7 +64,7 @@ valuesOf p row =
 -- source row s, its bytes being row: "Rows outside the crop count and touch no work value"
 unfoldable pub rowAccepted : Plan → List ℕ → ℕ → List ℕ → List ℕ
 rowAccepted p row s work =
-    cond (inCrop p s)
+    cond (inCrop (p .crop) s)
     (rowIn (scaleBy p) (s - p .crop .y) (valuesOf p row) work)
     work
 
@@ -93,16 +91,6 @@ offerCauses j n w =
 
 unfoldable pub offerNumber : Job → ℕ → ℕ → ℕ
 offerNumber j n w = first (offerCauses j n w)
-
--- the least number from c up, among n of them, for which the test is true; the one after them where there is none
-unfoldable pub least : (ℕ → Bool) → ℕ → ℕ → ℕ
-least test c zero = c
-least test c (suc n) = cond (test c) c (least test (suc c) n)
-
--- "It stops at the first row that makes an output row ready, at the last offered or at the source's last": the smaller of the most rows there may be and
--- "the least c from 1 up for which R(accepted before it + c) is above taken". Of the rows' function R, the rows accepted k and the rows taken t.
-unfoldable pub counted : (ℕ → ℕ) → ℕ → ℕ → ℕ → ℕ
-counted r k t most = min most (least (λ c. ltb t (r (k + c))) 1 most)
 
 abbrev pub lentRows : Plan → ℕ → ℕ
 lentRows p n = n / rowBytes (lanesOf p) (p .source .width)

@@ -7,14 +7,12 @@ use pixels::PIXEL_LANES;
 use pixels::Rect;
 use pixels::Refusal;
 use pixels::check_sizes;
-use pixels_crop::window;
 use pixels_layout::PixelLayout;
-use rows_adding::put_row;
-use rows_restoring::restore_row;
-use rows_scaling::scale_row;
+use rows_due::rows_until;
+use rows_in::put_source_row;
+use rows_out::take_row;
 use rows_schedule::counts_fit;
 use rows_schedule::rows_by;
-use rows_schedule::used_rows;
 ghost use mathlib.Core.Path.{_≡_};
 ghost use mathlib.Core.Bool.{_||_};
 ghost use mathlib.Core.List.{_++_};
@@ -25,8 +23,7 @@ ghost use Rattle.pixels.specs.Refusals.{checkedNumber, flaggedFlag};
 ghost use Rattle.pixels.specs.Sizes.{rowBytes, workValues};
 ghost use Rattle.job.specs.Answers.{startedNumber, startedJob, offeredNumber, offeredRows, offeredJob, takenNumber, takenJob};
 ghost use Rattle.job.specs.Record.{lanesOf, R, planOf, fresh, lawful, readyOf, Rules};
-ghost use Rattle.job.specs.Inner.{RowAsks};
-ghost use Rattle.job.specs.Calls.{startNumber, startWork, mostRows, rowAccepted, fed, count, offerNumber, offerRows, offerJob, offerWork, takeNumber, moreTaken, rowTaken, workTaken, takeJob, takeOut, takeWork};
+ghost use Rattle.job.specs.Calls.{startNumber, startWork, mostRows, fed, count, offerNumber, offerRows, offerJob, offerWork, takeNumber, moreTaken, rowTaken, workTaken, takeJob, takeOut, takeWork};
 
 // What does not change in a job.
 pub struct Plan {
@@ -160,69 +157,62 @@ fn check_take(j: Job, bytes: usize, work: usize) -> Checked
     Checked::Fit
 }
 
-// ---- a row comes in
+// ---- rows come in
 
-// Source row s. The Rust: a turn of Rescaler::import. Its crop window is a part of the row as lent; the layer below does not refuse it.
-fn row_in(p: Plan, row: &[u8], s: u32, work: &mut [u32])
-    requires { ⌜ RowAsks p (now row) (now work) ⌝ }
-    ensures { λ _. ⌜ now (work .exit) ≡ rowAccepted p (now (row .entry)) s (now (work .entry)) ⌝ }
+// The first n of the rows lent, one after another. The Rust: Rescaler::import.
+fn feed(j: Job, n: u32, rows: &[u8], work: &mut [u32])
+    requires { ⌜ offerNumber j (length (now rows)) (length (now work)) ≡ 0 ⌝ }
+    requires { ⌜ n ≤ mostRows j (length (now rows)) ⌝ }
+    ensures { λ _. ⌜ now (work .exit) ≡ fed (j .plan) (now (rows .entry)) (j .accepted) n (now (work .entry)) ⌝ }
 {
-    if s < p.crop.y {
-        return;
-    }
-    let c = s - p.crop.y;
-    if p.crop.height <= c {
-        return;
-    }
-    let part = window(row, p.crop.x, p.crop.width);
-    let crop = Dimensions {
-        width: p.crop.width,
-        height: p.crop.height,
-    };
+    let p = j.plan;
     let layout = p.layout;
-    put_row(layout, crop, p.target, c, part, work);
+    let stride = row_bytes(p, p.source.width);
+    let mut i: u32 = 0;
+    while i < n {
+        let at = stride * i as usize;
+        put_source_row(
+            layout,
+            p.crop,
+            p.target,
+            j.accepted + i,
+            &rows[at..at + stride],
+            work,
+        );
+        i += 1;
+    }
 }
 
-// The rows of an offer that passed its tests, one after another (the Rust: Rescaler::import): "stops at the first row that makes an output row ready, at the last offered or at
-// the source's last".
+// The rows of an offer that passed its tests: "stops at the first row that makes an output row ready, at the last offered or at the source's last".
 fn accept(j: Job, rows: &[u8], work: &mut [u32]) -> u32
     requires { ⌜ offerNumber j (length (now rows)) (length (now work)) ≡ 0 ⌝ }
     ensures rows { λ r. ⌜ r ≡ count j (length (now (rows .entry))) ⌝ }
     ensures work { λ _. ⌜ now (work .exit) ≡ fed (j .plan) (now (rows .entry)) (j .accepted) (count j (length (now (rows .entry)))) (now (work .entry)) ⌝ }
 {
-    let most = most_rows(j, rows.len());
-    let stride = row_bytes(j.plan, j.plan.source.width);
-    let mut i: u32 = 0;
-    let n = loop {
-        let at = stride * i as usize;
-        row_in(j.plan, &rows[at..at + stride], j.accepted + i, work);
-        i += 1;
-        if i == most {
-            break i;
-        }
-        if (j.taken as u64) < made(j.plan, j.accepted + i) {
-            break i;
-        }
-    };
+    let p = j.plan;
+    let from = j.accepted;
+    let to = from + most_rows(j, rows.len());
+    let n = rows_until(p.crop.y, p.crop.height, p.target.height, from, to, j.taken) - from;
+    feed(j, n, rows, work);
     n
 }
 
 // ---- a row goes out
 
-// The flag so far, joined by that of the row just restored.
-fn flag_after(flag: bool, restored: Flagged) -> bool
-    ensures { λ r. ⌜ r ≡ (flag || flaggedFlag restored) ⌝ }
+// The flag so far, joined by that of the row just made.
+fn flag_after(flag: bool, made: Flagged) -> bool
+    ensures { λ r. ⌜ r ≡ (flag || flaggedFlag made) ⌝ }
 {
     if flag {
         return true;
     }
-    match restored {
+    match made {
         Flagged::Flag(f) => f,
         Flagged::Refused(_) => false,
     }
 }
 
-// The row of a take that passed its tests; returns the record's next flag. The Rust: Rescaler::export and the end of resize. The layer below refuses neither call.
+// The row of a take that passed its tests; returns the record's next flag. The layer below does not refuse it.
 fn row_out(j: Job, out: &mut [u8], work: &mut [u32]) -> bool
     requires { ⌜ takeNumber j (length (now out)) (length (now work)) ≡ 0 ⌝ }
     ensures flag { λ r. ⌜ r ≡ moreTaken j (rowTaken j (now (work .entry))) .flag ⌝ }
@@ -230,15 +220,9 @@ fn row_out(j: Job, out: &mut [u8], work: &mut [u32]) -> bool
     ensures work { λ _. ⌜ now (work .exit) ≡ workTaken j (now (work .entry)) ⌝ }
 {
     let p = j.plan;
-    let used = used_rows(p.crop.y, p.crop.height, j.accepted);
-    let crop = Dimensions {
-        width: p.crop.width,
-        height: p.crop.height,
-    };
-    scale_row(crop, p.target, used, j.taken, out, work);
     let layout = p.layout;
-    let restored = restore_row(layout, p.target.width, out);
-    flag_after(j.flag, restored)
+    let made = take_row(layout, p.crop, p.target, j.accepted, j.taken, out, work);
+    flag_after(j.flag, made)
 }
 
 // ---- the calls

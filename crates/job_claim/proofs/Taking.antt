@@ -31,7 +31,7 @@ use Rattle.job.specs.declared.Job.{Job}
 use Rattle.job.specs.Record.{lanesOf, R, Rules}
 use Rattle.job.specs.Calls.{scaleBy, usedBy, rowTaken, workTaken}
 use Rattle.job_claim.specs.Rows.{sourceByte, mattedByte, scaledLane, rowOf}
-use Rattle.job.proofs.Restoring.{restored-cong}
+use Rattle.pixels_layout.proofs.Matted.{restored-cong}
 use Rattle.job_claim.proofs.Reading.{cropValue, cropValue-word, matted-small}
 use Rattle.job_claim.proofs.Feeding.{Holds}
 

@@ -32,7 +32,7 @@ use Rattle.job.specs.Record.{lanesOf, R}
 use Rattle.job_claim.specs.Rows.{sourceByte, mattedByte, scaledLane, rowOf, joined, rowsOf, resizePlan, resized, resizedFlag}
 use Rattle.job_claim.specs.Calls.{Run}
 use Rattle.arithmetic.proofs.Mattes.{pixel-cong}
-use Rattle.job.proofs.Restoring.{restored-cong}
+use Rattle.pixels_layout.proofs.Matted.{restored-cong}
 use Rattle.pixels_crop.proofs.Windows.{window-byte, window-length}
 use Rattle.job_claim.proofs.Reading.{value-cong}
 use Rattle.job_claim.proofs.Feeding.{row-length, row-byte}

@@ -1,1 +1,3 @@
 pub mod DueRow
+pub mod Counting
+pub mod Stopping
