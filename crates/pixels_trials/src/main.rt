@@ -6,6 +6,7 @@ use pixels::Flagged;
 use pixels::Rect;
 use pixels::Sized;
 use pixels_layout::PixelLayout;
+use pixels_sizes::check_sizes;
 
 fn main() {
     sizes();

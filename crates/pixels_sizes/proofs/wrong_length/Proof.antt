@@ -1,8 +1,8 @@
 -- A length that is no whole number of pixels is another; else the pixels are counted, so that no product is too large. Assumes nothing.
 use borrow.Author.Needs.{needs}
 use Rattle.pixels.proofs.Fitting.{ragged, pixels-alike}
-use Rattle.pixels.proofs.sizes.wrong_length.Statement.{statement}
-use Rattle.pixels.proofs.sizes.wrong_length.Tie as tie
+use Rattle.pixels_sizes.proofs.wrong_length.Statement.{statement}
+use Rattle.pixels_sizes.proofs.wrong_length.Tie as tie
 
 returns : tie.Need-returns
 returns c = let a = c .before .args in ragged (a .n) (a .size .width) (a .size .height) (c .if1 .taken)

@@ -1,10 +1,10 @@
 -- Each return is the law of `sizesNumber` for the first test that failed. Assumes nothing.
 use Rattle.pixels.proofs.Fitting.{empty-width, empty-height, not-empty, beyond-right, beyond-bottom, within, wrong-source, wrong-target, wrong-crop, right-sizes, sizes-wrong, sizes-beyond, sizes-pass}
 use native.Mathlib.Omega.{arith}
 use mathlib.Core.Path.{sym, _∙_}
 use borrow.Author.Needs.{needs}
-use Rattle.pixels.proofs.sizes.check_sizes.Statement.{statement}
-use Rattle.pixels.proofs.sizes.check_sizes.Tie as tie
+use Rattle.pixels_sizes.proofs.check_sizes.Statement.{statement}
+use Rattle.pixels_sizes.proofs.check_sizes.Tie as tie
 
 bad-size-requires : tie.Need-bad-size-requires
 bad-size-requires c κs = search needs
