@@ -5,10 +5,9 @@ use arithmetic::mult_fix;
 use arithmetic::wrapping_mul;
 use pixels::Checked;
 use pixels::PIXEL_LANES;
-use pixels::Refusal;
-use pixels::bad_side;
 use pixels_layout::PixelLayout;
 use pixels_layout::Places;
+use rows_tests::check_import;
 use std::num::wrapping_add_u32;
 use std::num::wrapping_sub_u32;
 ghost use mathlib.Core.Path.{_≡_};
@@ -17,7 +16,8 @@ ghost use lib.ListN.{length};
 ghost use Rattle.arithmetic.specs.Word.{wrapAdd, wrapMul};
 ghost use Rattle.pixels.specs.Sizes.{maxSide, pixelLanes};
 ghost use Rattle.pixels.specs.Refusals.{checkedNumber};
-ghost use Rattle.rows.specs.Import.{importNumber, importHalf};
+ghost use Rattle.rows_tests.specs.Tests.{importNumber};
+ghost use Rattle.rows.specs.Import.{importHalf};
 ghost use Rattle.rows.specs.Inner.Import.{at, Four, stored, laneBytes, mattedAt, PixelAsks, Within, InLanes, GatherAsks, Gathers, Finished, ColumnAsks, Columns, writtenRow, RowAsks, Second, AdvanceAsks, Advances};
 
 // A number for each lane, or for each byte of a pixel.
@@ -327,25 +327,6 @@ fn grow_row(row: &[u8], n: usize, m: usize, p: Places, half: &mut [u32])
         put4(half, j, v);
         j += 1;
     }
-}
-
-// The tests, in the order of document 01's table.
-fn check_import(crop_width: u32, target_width: u32, bytes: usize, room: usize) -> Checked
-    ensures { λ r. ⌜ checkedNumber r ≡ importNumber «crop_width» «target_width» bytes room ⌝ }
-{
-    if bad_side(crop_width as u64) {
-        return Checked::Refused(Refusal::InvalidDimensions);
-    }
-    if bad_side(target_width as u64) {
-        return Checked::Refused(Refusal::InvalidDimensions);
-    }
-    if bytes != PIXEL_LANES * crop_width as usize {
-        return Checked::Refused(Refusal::PixelBufferMismatch);
-    }
-    if room < PIXEL_LANES * target_width as usize {
-        return Checked::Refused(Refusal::WorkLength);
-    }
-    Checked::Fit
 }
 
 // One row of the crop, matted as it is read, into a half. A row as wide as the target goes the same way: matting changes it.

@@ -14,7 +14,8 @@ use Rattle.pixels_layout.specs.Lanes.{restoredPlace}
 use Rattle.pixels_alpha.specs.Alpha.{hasAlpha}
 use Rattle.rows_schedule.specs.Schedule.{used}
 use Rattle.rows.specs.WorkRows.{scaleOf, byteOut}
-use Rattle.rows_scaling.specs.Scaling.{scaleNumber, scaledWork}
+use Rattle.rows_tests.specs.Tests.{scaleNumber}
+use Rattle.rows_scaling.specs.Scaling.{scaledWork}
 
 abbrev pub cropSize : Rect → Dimensions
 cropSize crop = sizeOf (crop .width) (crop .height)

@@ -11,10 +11,11 @@ use Rattle.pixels.specs.Sizes.{pixelLanes, halfValues}
 use Rattle.pixels_layout.specs.Layout.{placesOf}
 use Rattle.pixels.proofs.Numbers.{buffer-refused, buffer-written}
 use Rattle.rows.specs.WorkRows.{written}
-use Rattle.rows.specs.Import.{importNumber, imported, importHalf}
+use Rattle.rows_tests.specs.Tests.{importNumber}
+use Rattle.rows.specs.Import.{imported, importHalf}
 use Rattle.rows.specs.Inner.Import.{Bytes, writtenRow, RowAsks}
 use Rattle.rows.proofs.Layouts.{places-within, matted-row}
-use Rattle.rows.proofs.Importing.{import-of}
+use Rattle.rows_tests.proofs.Passing.{import-of}
 use Rattle.rows.proofs.import.import_row.Statement.{statement}
 use Rattle.rows.proofs.import.import_row.Tie as tie
 

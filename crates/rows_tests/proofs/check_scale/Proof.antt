@@ -5,11 +5,11 @@ use borrow.Author.Tests.{lt-ltb, le-ltb}
 use Rattle.pixels.specs.Sizes.{badSize}
 use Rattle.pixels.proofs.Truths.{differ, same, not-false}
 use Rattle.pixels.proofs.Causes.{first-at}
-use Rattle.rows_scaling.specs.Scaling.{scaleCauses, scaleNumber}
-use Rattle.rows_scaling.proofs.ScaleRow.{scale-passes}
+use Rattle.rows_tests.specs.Tests.{scaleCauses, scaleNumber}
+use Rattle.rows_tests.proofs.Passing.{scale-passes}
 use borrow.Author.Needs.{needs}
-use Rattle.rows_scaling.proofs.check_scale.Statement.{statement}
-use Rattle.rows_scaling.proofs.check_scale.Tie as tie
+use Rattle.rows_tests.proofs.check_scale.Statement.{statement}
+use Rattle.rows_tests.proofs.check_scale.Tie as tie
 
 -- what the tests on the way told
 crop-fits : (c : tie.Else1) → badSize (c .before .before .args .crop) ≡ false

@@ -7,9 +7,9 @@ use borrow.Author.Tests.{lt-ltb, le-ltb}
 use Rattle.pixels.specs.Sizes.{badSide}
 use Rattle.pixels.proofs.Causes.{first-at, first-none}
 use Rattle.pixels.proofs.Truths.{differ, same}
-use Rattle.rows.specs.Import.{importCauses, importNumber}
-use Rattle.rows.proofs.import.check_import.Statement.{statement}
-use Rattle.rows.proofs.import.check_import.Tie as tie
+use Rattle.rows_tests.specs.Tests.{importCauses, importNumber}
+use Rattle.rows_tests.proofs.check_import.Statement.{statement}
+use Rattle.rows_tests.proofs.check_import.Tie as tie
 
 -- both widths pass
 both : (n m : ℕ) → badSide n ≡ false → badSide m ≡ false → (badSide n || badSide m) ≡ false
