@@ -1,5 +1,5 @@
-// The words that the library for C lends and hands over: layouts and flags as numbers, answers stored in lent words, the record of a job word by word.
-// Every function answers for all arguments.
+// The words that the library for C lends and hands over: layouts and flags as numbers, answers stored in lent words, the record of a job word by word; and the
+// boundary's own number and test. Every function answers for all arguments.
 use job::Job;
 use job::Plan;
 use pixels::Dimensions;
@@ -10,12 +10,16 @@ ghost use Prim.Native.Nat.{_≤_};
 ghost use lib.ListN.{length};
 ghost use Rattle.capi_words.specs.Words.{wordLayout, layoutWord, flagWord, stored};
 ghost use Rattle.capi_words.specs.Record.{recordLength, wordsJob, wordsLegal, toldBy, storedJob};
+ghost use Rattle.capi_words.specs.Boundary.{misused};
 
 // How many words a record takes.
 pub const RECORD_WORDS: usize = 12;
 
 // Layouts are numbered from 0 in the order of PixelLayout.
 pub const LAYOUTS: u32 = 3;
+
+// Above every number of documents 01 and 02: a layout argument that is none, or an answer slice that is too short.
+pub const BOUNDARY: u32 = 100;
 
 // What the words of a record tell: the record, or nothing where they make none.
 pub enum Told {
@@ -153,4 +157,17 @@ pub fn store_job(job: Job, words: &mut [u32])
         flag_word(job.flag),
     ];
     store(&answer, words);
+}
+
+// ---- the boundary
+
+// A layout argument that is none, or fewer words lent for the answer than it takes.
+// Rules out: the number of layouts taken for a layout; exactly as many words lent as it takes refused.
+pub fn misused(layout: u32, lent: usize, need: usize) -> bool
+    ensures { λ r. ⌜ r ≡ misused layout lent need ⌝ }
+{
+    if layout >= LAYOUTS {
+        return true;
+    }
+    lent < need
 }
