@@ -21,11 +21,11 @@ use Rattle.job.specs.declared.Taken.the-variants as taken
 use Rattle.job.specs.Answers.{startedNumber, startedJob, offeredNumber, offeredRows, offeredJob, takenNumber, takenJob}
 use Rattle.job.specs.Record.{fresh}
 use Rattle.job.specs.Calls.{startNumber, startWork, offerNumber, offerRows, offerJob, offerWork, takeNumber, takeJob, takeOut, takeWork}
-use Rattle.capi_words.specs.declared.Told.{Told}
-use Rattle.capi_words.specs.declared.Told.the-variants as told
-use Rattle.capi_words.specs.Record.{wordsJob, wordsLegal, toldBy, storedJob}
-use Rattle.capi_words.specs.Boundary.{boundaryFirst, recordFirst, storedWord}
-use Rattle.capi_words.proofs.Records.{job-legal, none-legal}
+use Rattle.capi_record.specs.declared.Told.{Told}
+use Rattle.capi_record.specs.declared.Told.the-variants as told
+use Rattle.capi_record.specs.Record.{wordsJob, wordsLegal, toldBy, storedJob, recordFirst}
+use Rattle.capi_words.specs.Boundary.{boundaryFirst, storedWord}
+use Rattle.capi_record.proofs.Records.{job-legal, none-legal}
 use Rattle.capi_words.proofs.Boundary.{kept-by, written-by, written-once, passed, buffer-told}
 use Rattle.capi_jobs.specs.Jobs.{numberOfOffer, recordAfterOffer, workAfterOffer, countAfterOffer, numberOfTake, recordAfterTake, outAfterTake, workAfterTake}
 

@@ -7,8 +7,8 @@ use lib.ListN.{length}
 use Rattle.pixels.specs.Refusals.{bufferIf}
 use Rattle.job.specs.Record.{fresh}
 use Rattle.job.specs.Calls.{startNumber, startWork, offerNumber, offerRows, offerJob, offerWork, takeNumber, takeJob, takeOut, takeWork}
-use Rattle.capi_words.specs.Record.{recordLength, wordsPlan, wordsJob, storedJob}
-use Rattle.capi_words.specs.Boundary.{boundaryFirst, misused, recordFirst, storedWord}
+use Rattle.capi_record.specs.Record.{recordLength, wordsPlan, wordsJob, storedJob, recordFirst}
+use Rattle.capi_words.specs.Boundary.{boundaryFirst, misused, storedWord}
 
 -- ---- jonquilsaw_start: source sw by sh, a layout word, the crop at x, y of cw by ch, target tw by th, work values, the record's words
 

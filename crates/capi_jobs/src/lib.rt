@@ -1,14 +1,14 @@
 // The library for C (include/jonquilsaw.h), the calls of a job: numbers and slices only. In C a slice is a pointer, then a count of elements.
 // Every function answers for all arguments: 0 where the call was accepted, document 01's number where it was refused, and BOUNDARY for what only
 // this boundary can be asked, tested first.
+use capi_record::RECORD_WORDS;
+use capi_record::Told;
+use capi_record::read_job;
+use capi_record::store_job;
 use capi_words::BOUNDARY;
-use capi_words::RECORD_WORDS;
-use capi_words::Told;
 use capi_words::layout_of;
 use capi_words::misused;
-use capi_words::read_job;
 use capi_words::store;
-use capi_words::store_job;
 use job::Offered;
 use job::Started;
 use job::Taken;

@@ -1,5 +1,5 @@
 -- The boundary's test, then the library's answer: a refusal keeps the words, a fresh record is stored. Assumes nothing.
-use Rattle.capi_words.specs.Record.{wordsPlan}
+use Rattle.capi_record.specs.Record.{wordsPlan}
 use Rattle.capi_words.proofs.Boundary.{misuse-told, misuse-kept}
 use Rattle.capi_jobs.specs.Jobs.{numberOfStart, workAfterStart, recordAfterStart}
 use Rattle.capi_jobs.proofs.Jobs.{start-refused, start-fresh}

@@ -1,8 +1,8 @@
 -- The words of the record, stored as one answer. Assumes nothing.
-use Rattle.capi_words.proofs.Records.{job-stored}
+use Rattle.capi_record.proofs.Records.{job-stored}
 use borrow.Author.Needs.{needs}
-use Rattle.capi_words.proofs.store_job.Statement.{statement}
-use Rattle.capi_words.proofs.store_job.Tie as tie
+use Rattle.capi_record.proofs.store_job.Statement.{statement}
+use Rattle.capi_record.proofs.store_job.Tie as tie
 
 layout-word-requires : tie.Need-layout-word-requires
 layout-word-requires c κs = search needs

@@ -1,9 +1,9 @@
 -- Words that make no record tell nothing; the others tell the record that is read. Assumes nothing.
 use borrow.Author.Needs.{needs}
 use borrow.Author.Tests.{not-true, not-false}
-use Rattle.capi_words.proofs.Records.{enough-words, told-nothing, told-job}
-use Rattle.capi_words.proofs.read_job.Statement.{statement}
-use Rattle.capi_words.proofs.read_job.Tie as tie
+use Rattle.capi_record.proofs.Records.{enough-words, told-nothing, told-job}
+use Rattle.capi_record.proofs.read_job.Statement.{statement}
+use Rattle.capi_record.proofs.read_job.Tie as tie
 
 legal-requires : tie.Need-legal-requires
 legal-requires c κs = search needs

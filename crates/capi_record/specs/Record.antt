@@ -5,13 +5,15 @@ use mathlib.Core.Bool.{Bool, cond, _&&_}
 use mathlib.Core.List.{List, [], _∷_}
 use lib.Dec.{leb}
 use lib.ListN.{length, getD}
+use Rattle.pixels.specs.declared.Refusal.the-variants.{InvalidRecord}
+use Rattle.pixels.specs.Refusals.{number}
 use Rattle.pixels.specs.Sizes.{sizeOf, rectOf}
 use Rattle.job.specs.declared.Plan.{Plan}
 use Rattle.job.specs.declared.Job.{Job}
 use Rattle.job.specs.Record.{planOf}
-use Rattle.capi_words.specs.declared.Told.{Told}
-use Rattle.capi_words.specs.declared.Told.the-variants as told
+use Rattle.capi_record.specs.declared.Told.{Told}
+use Rattle.capi_record.specs.declared.Told.the-variants as told
 use Rattle.capi_words.specs.Words.{isLayout, wordLayout, layoutWord, isFlag, wordFlag, flagWord, stored}
 
 -- how many words a record takes
 abbrev pub recordLength : ℕ
@@ -58,3 +60,7 @@ toldBy words = cond (wordsLegal words) (told.Job (wordsJob words)) told.Nothing
 -- lent words after a record was stored
 abbrev pub storedJob : Job → List ℕ → List ℕ
 storedJob j words = stored (recordWords j) words
+
+-- 6 where the words make no record, as for a record that breaks the rules, and the library's number n where they do
+abbrev pub recordFirst : List ℕ → ℕ → ℕ
+recordFirst words n = cond (wordsLegal words) n (number InvalidRecord)

@@ -1,8 +1,8 @@
 -- The tests in their order. Assumes nothing.
-use Rattle.capi_words.proofs.Records.{too-short, no-layout, flag-decides}
+use Rattle.capi_record.proofs.Records.{too-short, no-layout, flag-decides}
 use borrow.Author.Needs.{needs}
-use Rattle.capi_words.proofs.legal.Statement.{statement}
-use Rattle.capi_words.proofs.legal.Tie as tie
+use Rattle.capi_record.proofs.legal.Statement.{statement}
+use Rattle.capi_record.proofs.legal.Tie as tie
 
 returns : tie.Need-returns
 returns c = too-short ((c .before .args) .words .now) ((c .if1) .taken)

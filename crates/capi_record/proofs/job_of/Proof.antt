@@ -1,8 +1,8 @@
 -- Each word is read at its place. Assumes nothing.
-use Rattle.capi_words.specs.Record.{wordsJob}
+use Rattle.capi_record.specs.Record.{wordsJob}
 use borrow.Author.Needs.{needs}
-use Rattle.capi_words.proofs.job_of.Statement.{statement}
-use Rattle.capi_words.proofs.job_of.Tie as tie
+use Rattle.capi_record.proofs.job_of.Statement.{statement}
+use Rattle.capi_record.proofs.job_of.Tie as tie
 
 shared-slice-read-t8 : tie.Need-shared-slice-read-t8
 shared-slice-read-t8 c = search needs

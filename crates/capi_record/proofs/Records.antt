@@ -12,11 +12,11 @@ use borrow.Author.Tests.{leb-true, ltb-true, le-leb, lt-leb, lt-ltb, le-ltb}
 use Rattle.pixels_layout.specs.declared.PixelLayout.{PixelLayout}
 use Rattle.pixels_layout.specs.declared.PixelLayout.the-variants.{Rgba8, Argb8, Bgra8}
 use Rattle.job.specs.declared.Job.{Job}
-use Rattle.capi_words.specs.declared.Told.{Told}
-use Rattle.capi_words.specs.declared.Told.the-variants as told
+use Rattle.capi_record.specs.declared.Told.{Told}
+use Rattle.capi_record.specs.declared.Told.the-variants as told
 use Rattle.capi_words.specs.Words.{isLayout, wordLayout, layoutWord, isFlag, wordFlag, flagWord, stored}
-use Rattle.capi_words.specs.Record.{recordLength, recordWords, wordsJob, wordsLegal, toldBy, storedJob}
+use Rattle.capi_record.specs.Record.{recordLength, recordWords, wordsJob, wordsLegal, toldBy, storedJob}
 use Rattle.capi_words.proofs.Words.{stored-enough}
 
 -- ---- a layout and a flag
 pub layout-back : (l : PixelLayout) → wordLayout (layoutWord l) ≡ l
