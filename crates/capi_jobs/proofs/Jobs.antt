@@ -1,7 +1,7 @@
 -- What each way out of start, offer and take gives, as the contracts state it. Where the call went through, the record that the library hands back is the one
 -- that is stored. Assumes nothing.
 use Prim.Native.Nat.{ℕ, _≤_}
-use mathlib.Core.Path.{_≡_, refl, sym, _∙_}
+use mathlib.Core.Path.{_≡_, sym, _∙_}
 use mathlib.Core.Bool.{Bool, false}
 use mathlib.Core.List.{List}
 use lib.Dec.{ltb}
@@ -23,7 +23,7 @@ use Rattle.job.specs.Record.{fresh}
 use Rattle.job.specs.Calls.{startNumber, startWork, offerNumber, offerRows, offerJob, offerWork, takeNumber, takeJob, takeOut, takeWork}
 use Rattle.capi_record.specs.declared.Told.{Told}
 use Rattle.capi_record.specs.declared.Told.the-variants as told
-use Rattle.capi_record.specs.Record.{wordsJob, wordsLegal, toldBy, storedJob, recordFirst}
+use Rattle.capi_record.specs.Record.{wordsJob, toldBy, storedJob, recordFirst}
 use Rattle.capi_words.specs.Boundary.{boundaryFirst, storedWord}
 use Rattle.capi_record.proofs.Records.{job-legal, none-legal}
 use Rattle.capi_words.proofs.Boundary.{kept-by, written-by, written-once, passed, buffer-told}

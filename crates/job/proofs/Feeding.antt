@@ -1,5 +1,5 @@
 -- The rows of an offer that passed its tests come in, one after another: the rows so far are in the work rows. Assumes nothing.
-use Prim.Native.Nat.{ℕ, zero, suc, _+_, _*_, _-_, _/_, _%_, _≤_, _<_, min}
+use Prim.Native.Nat.{ℕ, suc, _+_, _*_, _-_, _/_, _≤_, _<_}
 use mathlib.Core.Path.{_≡_, refl, _∙_, ap}
 use mathlib.Core.List.{List}
 use native.Mathlib.Omega.{arith}
@@ -7,7 +7,7 @@ use native.Mathlib.Nat.{div-add-mod, mul-le-mul-left}
 use native.Mathlib.Numerals.{add-one}
 use lib.ListN.{length, take, drop, length-drop}
 use lib.Seq.{length-take-le}
-use Rattle.pixels.specs.Sizes.{rowBytes, workValues}
+use Rattle.pixels.specs.Sizes.{rowBytes}
 use Rattle.pixels_crop.specs.Crop.{pictureRow}
 use Rattle.pixels_crop.proofs.Windows.{row-part}
 use Rattle.rows_due.specs.Until.{counted}

@@ -1,13 +1,13 @@
 -- What start, offer and take answer and leave in every buffer (document 01, "The job" and "Why a call is turned away"), for every record and any contents
 -- of the work values. Assumes nothing.
-use Prim.Native.Nat.{ℕ, zero, suc, _+_, _-_, _*_, _/_, _%_, min}
-use mathlib.Core.Bool.{Bool, cond, not, _||_, _&&_}
+use Prim.Native.Nat.{ℕ, zero, suc, _+_, _-_, _/_, _%_, min}
+use mathlib.Core.Bool.{Bool, cond, not, _||_}
 use mathlib.Core.List.{List, [], _∷_, _++_}
 use lib.Dec.{eqb, leb, ltb}
 use lib.ListN.{length, drop, replicate}
 use Rattle.arithmetic.specs.Table.{tabulate}
 use Rattle.arithmetic.specs.Weight.{span}
-use Rattle.pixels.specs.declared.Refusal.the-variants.{PixelBufferMismatch, OutputLength, WorkLength, InvalidRecord, RowReady, AllAccepted, NoneReady}
+use Rattle.pixels.specs.declared.Refusal.the-variants.{PixelBufferMismatch, OutputLength, InvalidRecord, RowReady, AllAccepted, NoneReady}
 use Rattle.pixels.specs.Refusals.{Cause, cause, first, otherLength, fewWork}
 use Rattle.pixels.specs.Sizes.{rowBytes, halfValues, workValues, sizesCauses}
 use Rattle.pixels_layout.specs.Lanes.{matted, restoredPlace}

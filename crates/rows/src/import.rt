@@ -11,7 +11,7 @@ use rows_tests::check_import;
 use std::num::wrapping_add_u32;
 use std::num::wrapping_sub_u32;
 ghost use mathlib.Core.Path.{_≡_};
-ghost use Prim.Native.Nat.{ℕ, _+_, _*_, _/_, _≤_, _<_};
+ghost use Prim.Native.Nat.{_+_, _*_, _/_, _≤_, _<_};
 ghost use lib.ListN.{length};
 ghost use Rattle.arithmetic.specs.Word.{wrapAdd, wrapMul};
 ghost use Rattle.pixels.specs.Sizes.{maxSide, pixelLanes};

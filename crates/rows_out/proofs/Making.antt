@@ -10,7 +10,7 @@ use Rattle.arithmetic.proofs.Tables.{length-tabulate, getD-tabulate, tabulate-c
 use Rattle.pixels.specs.declared.Dimensions.{Dimensions}
 use Rattle.pixels.specs.declared.Rect.{Rect}
 use Rattle.pixels.specs.declared.Refusal.{Refusal}
-use Rattle.pixels.specs.Refusals.{number, flagIf, bufferIf}
+use Rattle.pixels.specs.Refusals.{number}
 use Rattle.pixels.specs.Sizes.{pixelLanes, rowBytes, halfValues}
 use Rattle.pixels.proofs.Fitting.{side-good, size-of}
 use Rattle.pixels.proofs.Numbers.{flagged-refused, buffer-refused}

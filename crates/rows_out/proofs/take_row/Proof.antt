@@ -1,5 +1,4 @@
 -- A refusal of scaling is handed on; a row that is scaled is restored and packed. Assumes nothing.
-use mathlib.Core.Path.{sym, _∙_}
 use borrow.Author.Needs.{needs}
 use Rattle.rows_out.proofs.Making.{out-refused, out-made}
 use Rattle.rows_out.proofs.take_row.Statement.{statement}
