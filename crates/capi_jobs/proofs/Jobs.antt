@@ -10,7 +10,8 @@ use borrow.Author.Tests.{le-ltb}
 use Rattle.pixels.specs.declared.Refusal.{Refusal}
 use Rattle.pixels.specs.declared.Refusal.the-variants.{InvalidRecord}
 use Rattle.pixels.specs.Refusals.{number, bufferIf}
-use Rattle.job.specs.declared.Plan.{Plan}
+use Rattle.job_rules.specs.declared.Plan.{Plan}
+use Rattle.job_rules.specs.Rules.{startNumber}
 use Rattle.job.specs.declared.Job.{Job}
 use Rattle.job.specs.declared.Started.{Started}
 use Rattle.job.specs.declared.Started.the-variants as started
@@ -20,7 +21,7 @@ use Rattle.job.specs.declared.Taken.{Taken}
 use Rattle.job.specs.declared.Taken.the-variants as taken
 use Rattle.job.specs.Answers.{startedNumber, startedJob, offeredNumber, offeredRows, offeredJob, takenNumber, takenJob}
 use Rattle.job.specs.Record.{fresh}
-use Rattle.job.specs.Calls.{startNumber, startWork, offerNumber, offerRows, offerJob, offerWork, takeNumber, takeJob, takeOut, takeWork}
+use Rattle.job.specs.Calls.{startWork, offerNumber, offerRows, offerJob, offerWork, takeNumber, takeJob, takeOut, takeWork}
 use Rattle.capi_record.specs.declared.Told.{Told}
 use Rattle.capi_record.specs.declared.Told.the-variants as told
 use Rattle.capi_record.specs.Record.{wordsJob, toldBy, storedJob, recordFirst}

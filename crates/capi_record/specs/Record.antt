@@ -8,9 +8,9 @@ use lib.ListN.{length, getD}
 use Rattle.pixels.specs.declared.Refusal.the-variants.{InvalidRecord}
 use Rattle.pixels.specs.Refusals.{number}
 use Rattle.pixels.specs.Sizes.{sizeOf, rectOf}
-use Rattle.job.specs.declared.Plan.{Plan}
+use Rattle.job_rules.specs.declared.Plan.{Plan}
+use Rattle.job_rules.specs.Rules.{planOf}
 use Rattle.job.specs.declared.Job.{Job}
-use Rattle.job.specs.Record.{planOf}
 use Rattle.capi_record.specs.declared.Told.{Told}
 use Rattle.capi_record.specs.declared.Told.the-variants as told
 use Rattle.capi_words.specs.Words.{isLayout, wordLayout, layoutWord, isFlag, wordFlag, flagWord, stored}

@@ -4,7 +4,7 @@ use capi_words::flag_word;
 use capi_words::layout_of;
 use capi_words::store;
 use job::Job;
-use job::Plan;
+use job_rules::Plan;
 use pixels::Dimensions;
 use pixels::Rect;
 use pixels_layout::PixelLayout;

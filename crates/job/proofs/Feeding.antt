@@ -13,9 +13,9 @@ use Rattle.pixels_crop.proofs.Windows.{row-part}
 use Rattle.rows_due.specs.Until.{counted}
 use Rattle.rows_due.proofs.Counting.{counted-most}
 use Rattle.rows_in.specs.In.{inWork}
-use Rattle.job.specs.declared.Plan.{Plan}
+use Rattle.job_rules.specs.declared.Plan.{Plan}
+use Rattle.job_rules.specs.Rules.{lanesOf, R}
 use Rattle.job.specs.declared.Job.{Job}
-use Rattle.job.specs.Record.{lanesOf, R}
 use Rattle.job.specs.Inner.{RowAsks}
 use Rattle.job.specs.Calls.{lentRows, mostRows, count, rowAccepted, fed, offerNumber}
 use Rattle.job.proofs.RowIn.{row-in}

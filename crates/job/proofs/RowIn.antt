@@ -14,10 +14,10 @@ use Rattle.pixels_crop.proofs.Windows.{window-length}
 use Rattle.rows_adding.specs.Put.{putNumber}
 use Rattle.rows_adding.proofs.Putting.{put-fits, put-written}
 use Rattle.rows_in.specs.In.{inCrop, partOf, inWork}
-use Rattle.job.specs.declared.Plan.{Plan}
+use Rattle.job_rules.specs.declared.Plan.{Plan}
+use Rattle.job_rules.specs.Rules.{lanesOf}
 use Rattle.job.specs.Calls.{rowAccepted}
 use Rattle.job.specs.Inner.{RowAsks}
-use Rattle.job.specs.Record.{lanesOf}
 
 module _ (p : Plan) (row : List ℕ) (s : ℕ) (work : List ℕ) (asks : RowAsks p row work) where
   abbrev fits : Fits (p .source) (p .crop) (p .target)

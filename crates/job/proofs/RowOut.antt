@@ -16,7 +16,7 @@ use Rattle.rows_tests.proofs.Passing.{scale-passes}
 use Rattle.rows_scaling.proofs.ScaleRow.{scale-made}
 use Rattle.rows_out.specs.Out.{cropSize, outNumber, rowMade, outFlag, outRow, outWork}
 use Rattle.rows_out.proofs.Making.{flag-written, row-written}
-use Rattle.job.specs.declared.Plan.{Plan}
+use Rattle.job_rules.specs.declared.Plan.{Plan}
 use Rattle.job.specs.declared.Job.{Job}
 use Rattle.job.specs.Calls.{usedBy, rowTaken, workTaken, takeNumber}
 use Rattle.job.proofs.Views.{TakeWent, take-went}

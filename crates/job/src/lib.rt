@@ -1,37 +1,31 @@
 // The job (document 01, "The job"; the Rust: Rescaler and rescale_plane of geometry.rs): a record by value that every call takes and hands back.
 // The caller lends the rows, the work values and the output row. Fields are public: a record that meets the rules counts, whoever filled it.
+use job_rules::Plan;
+use job_rules::check_offer;
+use job_rules::check_rules;
+use job_rules::check_start;
+use job_rules::check_take;
+use job_rules::row_bytes;
 use pixels::Checked;
 use pixels::Dimensions;
 use pixels::Flagged;
-use pixels::PIXEL_LANES;
 use pixels::Rect;
 use pixels::Refusal;
 use pixels_layout::PixelLayout;
-use pixels_sizes::check_sizes;
 use rows_due::rows_until;
 use rows_in::put_source_row;
 use rows_out::take_row;
-use rows_schedule::counts_fit;
 use rows_schedule::rows_by;
 ghost use mathlib.Core.Path.{_≡_};
 ghost use mathlib.Core.Bool.{_||_};
 ghost use mathlib.Core.List.{_++_};
 ghost use Prim.Native.Nat.{_≤_};
-ghost use lib.Dec.{ltb};
 ghost use lib.ListN.{length, drop, replicate};
-ghost use Rattle.pixels.specs.Refusals.{checkedNumber, flaggedFlag};
-ghost use Rattle.pixels.specs.Sizes.{rowBytes, workValues};
+ghost use Rattle.pixels.specs.Refusals.{flaggedFlag};
+ghost use Rattle.job_rules.specs.Rules.{planOf, startNumber};
 ghost use Rattle.job.specs.Answers.{startedNumber, startedJob, offeredNumber, offeredRows, offeredJob, takenNumber, takenJob};
-ghost use Rattle.job.specs.Record.{lanesOf, R, planOf, fresh, lawful, readyOf, Rules};
-ghost use Rattle.job.specs.Calls.{startNumber, startWork, mostRows, fed, count, offerNumber, offerRows, offerJob, offerWork, takeNumber, moreTaken, rowTaken, workTaken, takeJob, takeOut, takeWork};
-
-// What does not change in a job.
-pub struct Plan {
-    pub source: Dimensions,
-    pub layout: PixelLayout,
-    pub crop: Rect,
-    pub target: Dimensions,
-}
+ghost use Rattle.job.specs.Record.{fresh, lawful, readyOf, Rules};
+ghost use Rattle.job.specs.Calls.{startWork, mostRows, fed, count, offerNumber, offerRows, offerJob, offerWork, takeNumber, moreTaken, rowTaken, workTaken, takeJob, takeOut, takeWork};
 
 // The record: the plan, source rows accepted, preview rows taken, and whether a taken row had an alpha byte other than 255.
 pub struct Job {
@@ -59,28 +53,7 @@ pub enum Taken {
     Refused { why: Refusal, job: Job },
 }
 
-// ---- numbers
-
-// The bytes of a row of `width` pixels, which are also the values of a half: the one place that knows a job's lanes.
-fn row_bytes(p: Plan, width: u32) -> usize
-    ensures { λ r. ⌜ r ≡ rowBytes (lanesOf p) width ⌝ }
-{
-    PIXEL_LANES * width as usize
-}
-
-// Fewer than two halves of work values.
-fn short_work(p: Plan, n: usize) -> bool
-    ensures { λ r. ⌜ r ≡ ltb n (workValues (lanesOf p) (p .target .width)) ⌝ }
-{
-    n < 2 * row_bytes(p, p.target.width)
-}
-
-// R(k). A row is ready while it is above the rows taken: the Rust's Rescaler::has_pending_output, there by an accumulator.
-fn made(p: Plan, accepted: u32) -> u64
-    ensures { λ r. ⌜ r ≡ R p accepted ⌝ }
-{
-    rows_by(p.crop.y, p.crop.height, p.target.height, accepted)
-}
+// ---- rows come in
 
 // The rows lent or those that the source has left, whichever are fewer; n is the number of bytes lent.
 fn most_rows(j: Job, n: usize) -> u32
@@ -94,70 +67,6 @@ fn most_rows(j: Job, n: usize) -> u32
     }
     left
 }
-
-// ---- the tests of each call, in their order
-
-fn check_start(p: Plan, work: usize) -> Checked
-    ensures { λ r. ⌜ checkedNumber r ≡ startNumber p work ⌝ }
-{
-    let checked = check_sizes(p.source, p.crop, p.target);
-    match checked {
-        Checked::Refused(why) => {
-            return Checked::Refused(why);
-        }
-        Checked::Fit => {}
-    }
-    if short_work(p, work) {
-        return Checked::Refused(Refusal::WorkLength);
-    }
-    Checked::Fit
-}
-
-// Of the bytes lent and the work values.
-fn check_offer(j: Job, bytes: usize, work: usize) -> Checked
-    ensures { λ r. ⌜ checkedNumber r ≡ offerNumber j bytes work ⌝ }
-{
-    if !j.check() {
-        return Checked::Refused(Refusal::InvalidRecord);
-    }
-    if bytes == 0 {
-        return Checked::Refused(Refusal::PixelBufferMismatch);
-    }
-    if bytes % row_bytes(j.plan, j.plan.source.width) != 0 {
-        return Checked::Refused(Refusal::PixelBufferMismatch);
-    }
-    if short_work(j.plan, work) {
-        return Checked::Refused(Refusal::WorkLength);
-    }
-    if (j.taken as u64) < made(j.plan, j.accepted) {
-        return Checked::Refused(Refusal::RowReady);
-    }
-    if j.plan.source.height <= j.accepted {
-        return Checked::Refused(Refusal::AllAccepted);
-    }
-    Checked::Fit
-}
-
-// Of the bytes of output and the work values.
-fn check_take(j: Job, bytes: usize, work: usize) -> Checked
-    ensures { λ r. ⌜ checkedNumber r ≡ takeNumber j bytes work ⌝ }
-{
-    if !j.check() {
-        return Checked::Refused(Refusal::InvalidRecord);
-    }
-    if bytes != row_bytes(j.plan, j.plan.target.width) {
-        return Checked::Refused(Refusal::OutputLength);
-    }
-    if short_work(j.plan, work) {
-        return Checked::Refused(Refusal::WorkLength);
-    }
-    if made(j.plan, j.accepted) <= j.taken as u64 {
-        return Checked::Refused(Refusal::NoneReady);
-    }
-    Checked::Fit
-}
-
-// ---- rows come in
 
 // The first n of the rows lent, one after another. The Rust: Rescaler::import.
 fn feed(j: Job, n: u32, rows: &[u8], work: &mut [u32])
@@ -276,43 +185,24 @@ pub fn start(
 }
 
 impl Job {
-    // The record rules. Rules out: a flag before the first row taken; the rows accepted held to the crop's height.
+    // The record rules. Rules out: the rows accepted and the rows taken exchanged; a flag before the first row taken.
     pub fn check(self) -> bool
         ensures { λ r. ⌜ r ≡ lawful self ⌝ }
     {
-        let p = self.plan;
-        let checked = check_sizes(p.source, p.crop, p.target);
-        match checked {
-            Checked::Refused(_) => {
-                return false;
-            }
-            Checked::Fit => {}
-        }
-        if !counts_fit(
-            p.crop.y,
-            p.crop.height,
-            p.target.height,
-            p.source.height,
-            self.accepted,
-            self.taken,
-        ) {
-            return false;
-        }
-        if self.taken != 0 {
-            return true;
-        }
-        !self.flag
+        check_rules(self.plan, self.accepted, self.taken, self.flag)
     }
 
     // The output rows that are ready; none of a record that breaks the rules.
-    // Rules out: rows counted that were taken; rows that the next source row makes.
+    // Rules out: rows counted that were taken; a row ready of a record that breaks the rules.
     pub fn ready(self) -> u32
         ensures { λ r. ⌜ r ≡ readyOf self ⌝ }
     {
         if !self.check() {
             return 0;
         }
-        (made(self.plan, self.accepted) - self.taken as u64) as u32
+        let p = self.plan;
+        let made = rows_by(p.crop.y, p.crop.height, p.target.height, self.accepted);
+        (made - self.taken as u64) as u32
     }
 
     // Offers one or more whole source rows; returns how many were accepted.
@@ -323,7 +213,14 @@ impl Job {
         ensures job { λ r. ⌜ offeredJob r ≡ offerJob self (length (now (rows .entry))) (length (now (work .entry))) ⌝ }
         ensures work { λ _. ⌜ now (work .exit) ≡ offerWork self (now (rows .entry)) (now (work .entry)) ⌝ }
     {
-        let checked = check_offer(self, rows.len(), work.len());
+        let checked = check_offer(
+            self.plan,
+            self.accepted,
+            self.taken,
+            self.flag,
+            rows.len(),
+            work.len(),
+        );
         match checked {
             Checked::Refused(why) => {
                 return Offered::Refused {
@@ -346,7 +243,14 @@ impl Job {
         ensures out { λ _. ⌜ now (out .exit) ≡ takeOut self (now (out .entry)) (now (work .entry)) ⌝ }
         ensures work { λ _. ⌜ now (work .exit) ≡ takeWork self (length (now (out .entry))) (now (work .entry)) ⌝ }
     {
-        let checked = check_take(self, out.len(), work.len());
+        let checked = check_take(
+            self.plan,
+            self.accepted,
+            self.taken,
+            self.flag,
+            out.len(),
+            work.len(),
+        );
         match checked {
             Checked::Refused(why) => {
                 return Taken::Refused {

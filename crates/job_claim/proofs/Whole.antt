@@ -27,8 +27,8 @@ use Rattle.rows_schedule.proofs.Needed.{needed-le}
 use Rattle.rows.specs.Column.{value}
 use Rattle.rows.specs.Closed.{scaled}
 use Rattle.rows_laws.proofs.Reach.{scaledByte-same}
-use Rattle.job.specs.declared.Plan.{Plan}
-use Rattle.job.specs.Record.{lanesOf, R}
+use Rattle.job_rules.specs.declared.Plan.{Plan}
+use Rattle.job_rules.specs.Rules.{lanesOf, R}
 use Rattle.job_claim.specs.Rows.{sourceByte, mattedByte, scaledLane, rowOf, joined, rowsOf, resizePlan, resized, resizedFlag}
 use Rattle.job_claim.specs.Calls.{Run}
 use Rattle.arithmetic.proofs.Mattes.{pixel-cong}

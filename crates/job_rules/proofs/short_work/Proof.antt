@@ -3,8 +3,8 @@ use Prim.Native.Nat.{ℕ, _*_}
 use mathlib.Core.Path.{ap}
 use lib.Dec.{ltb}
 use borrow.Author.Needs.{needs}
-use Rattle.job.proofs.short_work.Statement.{statement}
-use Rattle.job.proofs.short_work.Tie as tie
+use Rattle.job_rules.proofs.short_work.Statement.{statement}
+use Rattle.job_rules.proofs.short_work.Tie as tie
 
 row-bytes-requires : tie.Need-row-bytes-requires
 row-bytes-requires c κs = search needs

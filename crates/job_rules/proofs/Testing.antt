@@ -5,17 +5,15 @@ use mathlib.Core.Bool.{Bool, true, false, not, _||_, or-true}
 use lib.Dec.{eqb, ltb}
 use borrow.Author.Tests.{eq-eqb, ne-eqb, lt-ltb, le-ltb}
 use Rattle.pixels.specs.Sizes.{rowBytes}
-use Rattle.job.specs.declared.Plan.{Plan}
-use Rattle.job.specs.declared.Job.{Job}
-use Rattle.job.specs.Record.{lanesOf, R, lawful}
-use Rattle.job.specs.Calls.{badRows}
+use Rattle.job_rules.specs.declared.Plan.{Plan}
+use Rattle.job_rules.specs.Rules.{lanesOf, R, lawfulOf, badRows}
 
 -- ---- the record; b is what `check` answered
-module _ (j : Job) (b : Bool) (is : b ≡ lawful j) where
-  pub unlawful : not b ≡ true → not (lawful j) ≡ true
+module _ (p : Plan) (k t : ℕ) (f : Bool) (b : Bool) (is : b ≡ lawfulOf p k t f) where
+  pub unlawful : not b ≡ true → not (lawfulOf p k t f) ≡ true
   unlawful e = ap not (sym is) ∙ e
 
-  pub lawful-test : not b ≡ false → not (lawful j) ≡ false
+  pub lawful-test : not b ≡ false → not (lawfulOf p k t f) ≡ false
   lawful-test e = ap not (sym is) ∙ e
 
 -- ---- the bytes lent; s is the length of a source row
@@ -30,9 +28,9 @@ module _ (p : Plan) (n s : ℕ) (is : s ≡ rowBytes (lanesOf p) (p .source .wid
   rows-whole e = simp (ne-eqb n 0 some, eq-eqb (n % rowBytes (lanesOf p) (p .source .width)) 0 (rw is at e))
 
 -- ---- the rows made; x is R(k)
-module _ (j : Job) (x : ℕ) (is : x ≡ R (j .plan) (j .accepted)) where
-  pub made-above : j .taken < x → ltb (j .taken) (R (j .plan) (j .accepted)) ≡ true
-  made-above l = lt-ltb (j .taken) (R (j .plan) (j .accepted)) (rw is at l)
+module _ (p : Plan) (k t : ℕ) (f : Bool) (x : ℕ) (is : x ≡ R p k) where
+  pub made-above : t < x → ltb t (R p k) ≡ true
+  made-above l = lt-ltb t (R p k) (rw is at l)
 
-  pub made-reached : x ≤ j .taken → ltb (j .taken) (R (j .plan) (j .accepted)) ≡ false
-  made-reached l = le-ltb (j .taken) (R (j .plan) (j .accepted)) (rw is at l)
+  pub made-reached : x ≤ t → ltb t (R p k) ≡ false
+  made-reached l = le-ltb t (R p k) (rw is at l)

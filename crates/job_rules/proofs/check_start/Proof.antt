@@ -4,9 +4,9 @@ use mathlib.Core.Path.{sym, _∙_}
 use borrow.Author.Needs.{needs}
 use Rattle.pixels.proofs.Causes.{first-at, first-none, first-past, first-stays}
 use Rattle.pixels.specs.Sizes.{sizesCauses, sizesNumber}
-use Rattle.job.specs.Calls.{shortWork, startNumber}
-use Rattle.job.proofs.check_start.Statement.{statement}
-use Rattle.job.proofs.check_start.Tie as tie
+use Rattle.job_rules.specs.Rules.{shortWork, startNumber}
+use Rattle.job_rules.proofs.check_start.Statement.{statement}
+use Rattle.job_rules.proofs.check_start.Tie as tie
 
 check-sizes-requires : tie.Need-check-sizes-requires
 check-sizes-requires c κs = search needs
