@@ -17,7 +17,7 @@ use Rattle.job_rules.specs.Rules.{lanesOf, R, startNumber}
 use Rattle.job.specs.declared.Job.{Job}
 use Rattle.job.specs.Record.{fresh, Rules}
 use Rattle.job.specs.Calls.{startWork, mostRows, offerNumber, offerRows, offerJob, offerWork, count, moreAccepted, fed, takeNumber, takeJob, takeOut, takeWork, moreTaken, rowTaken, workTaken}
-use Rattle.rows_due.proofs.Counting.{counted-most}
+use Rattle.job.proofs.Counting.{counted-most}
 use Rattle.job.proofs.Views.{offer-went, offer-turned, take-went, take-turned}
 
 -- ---- start

@@ -1,9 +1,9 @@
 -- What start, offer and take answer and leave in every buffer (document 01, "The job" and "Why a call is turned away"), for every record and any contents
 -- of the work values. Assumes nothing.
 use Prim.Native.Nat.{ℕ, zero, suc, _+_, _-_, _/_, min}
-use mathlib.Core.Bool.{cond, _||_}
+use mathlib.Core.Bool.{Bool, cond, _||_}
 use mathlib.Core.List.{List, _++_}
-use lib.Dec.{eqb}
+use lib.Dec.{eqb, ltb}
 use lib.ListN.{length, drop, replicate}
 use Rattle.arithmetic.specs.Table.{tabulate}
 use Rattle.arithmetic.specs.Weight.{span}
@@ -12,7 +12,6 @@ use Rattle.pixels_layout.specs.Lanes.{matted, restoredPlace}
 use Rattle.pixels_alpha.specs.Alpha.{hasAlpha}
 use Rattle.pixels_crop.specs.Crop.{windowOf, pictureRow}
 use Rattle.rows_schedule.specs.Schedule.{used}
-use Rattle.rows_due.specs.Until.{counted}
 use Rattle.rows.specs.Lanes.{rowValue}
 use Rattle.rows.specs.WorkRows.{Scale, rowIn, byteOut, rowLeft}
 use Rattle.rows_in.specs.In.{inCrop}
@@ -62,6 +61,16 @@ fed p rows k (suc c) work = rowAccepted p (pictureRow (lanesOf p) rows (p .sourc
 -- of n bytes lent and w work values
 abbrev pub offerNumber : Job → ℕ → ℕ → ℕ
 offerNumber j n w = offerNumberOf (j .plan) (j .accepted) (j .taken) (j .flag) n w
+
+-- the least number from c up, among n of them, for which the test is true; the one after them where there is none
+unfoldable pub least : (ℕ → Bool) → ℕ → ℕ → ℕ
+least test c zero = c
+least test c (suc n) = cond (test c) c (least test (suc c) n)
+
+-- "It stops at the first row that makes an output row ready, at the last offered or at the source's last": the smaller of the most rows there may be and
+-- "the least c from 1 up for which R(accepted before it + c) is above taken". Of the rows' function R, the rows accepted k and the rows taken t.
+unfoldable pub counted : (ℕ → ℕ) → ℕ → ℕ → ℕ → ℕ
+counted r k t most = min most (least (λ c. ltb t (r (k + c))) 1 most)
 
 abbrev pub lentRows : Plan → ℕ → ℕ
 lentRows p n = n / rowBytes (lanesOf p) (p .source .width)

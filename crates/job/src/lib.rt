@@ -12,7 +12,6 @@ use pixels::Flagged;
 use pixels::Rect;
 use pixels::Refusal;
 use pixels_layout::PixelLayout;
-use rows_due::rows_until;
 use rows_in::put_source_row;
 use rows_out::take_row;
 use rows_schedule::rows_by;
@@ -68,17 +67,19 @@ fn most_rows(j: Job, n: usize) -> u32
     left
 }
 
-// The first n of the rows lent, one after another. The Rust: Rescaler::import.
-fn feed(j: Job, n: u32, rows: &[u8], work: &mut [u32])
+// The rows of an offer that passed its tests, one after another (the Rust: Rescaler::import): "stops at the first row that makes an output row ready, at the last offered or at
+// the source's last".
+fn accept(j: Job, rows: &[u8], work: &mut [u32]) -> u32
     requires { ⌜ offerNumber j (length (now rows)) (length (now work)) ≡ 0 ⌝ }
-    requires { ⌜ n ≤ mostRows j (length (now rows)) ⌝ }
-    ensures { λ _. ⌜ now (work .exit) ≡ fed (j .plan) (now (rows .entry)) (j .accepted) n (now (work .entry)) ⌝ }
+    ensures rows { λ r. ⌜ r ≡ count j (length (now (rows .entry))) ⌝ }
+    ensures work { λ _. ⌜ now (work .exit) ≡ fed (j .plan) (now (rows .entry)) (j .accepted) (count j (length (now (rows .entry)))) (now (work .entry)) ⌝ }
 {
     let p = j.plan;
     let layout = p.layout;
+    let most = most_rows(j, rows.len());
     let stride = row_bytes(p, p.source.width);
     let mut i: u32 = 0;
-    while i < n {
+    let n = loop {
         let at = stride * i as usize;
         put_source_row(
             layout,
@@ -89,20 +90,14 @@ fn feed(j: Job, n: u32, rows: &[u8], work: &mut [u32])
             work,
         );
         i += 1;
-    }
-}
-
-// The rows of an offer that passed its tests: "stops at the first row that makes an output row ready, at the last offered or at the source's last".
-fn accept(j: Job, rows: &[u8], work: &mut [u32]) -> u32
-    requires { ⌜ offerNumber j (length (now rows)) (length (now work)) ≡ 0 ⌝ }
-    ensures rows { λ r. ⌜ r ≡ count j (length (now (rows .entry))) ⌝ }
-    ensures work { λ _. ⌜ now (work .exit) ≡ fed (j .plan) (now (rows .entry)) (j .accepted) (count j (length (now (rows .entry)))) (now (work .entry)) ⌝ }
-{
-    let p = j.plan;
-    let from = j.accepted;
-    let to = from + most_rows(j, rows.len());
-    let n = rows_until(p.crop.y, p.crop.height, p.target.height, from, to, j.taken) - from;
-    feed(j, n, rows, work);
+        if i == most {
+            break i;
+        }
+        let made = rows_by(p.crop.y, p.crop.height, p.target.height, j.accepted + i);
+        if (j.taken as u64) < made {
+            break i;
+        }
+    };
     n
 }
 

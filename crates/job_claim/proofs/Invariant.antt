@@ -23,7 +23,7 @@ use Rattle.job.specs.declared.Job.{Job}
 use Rattle.job.specs.Record.{Rules, fresh}
 use Rattle.job.specs.Calls as calls
 use Rattle.job.specs.Calls.{scaleBy, mostRows, count, lentRows, moreAccepted, moreTaken, fed, rowTaken, workTaken, startWork, cleared}
-use Rattle.rows_due.proofs.Counting.{counted-most, counted-low, counted-some}
+use Rattle.job.proofs.Counting.{counted-most, counted-low, counted-some}
 use Rattle.job.proofs.Views.{WholeRows, OfferTurned, OfferWent, offer-view, TakeTurned, TakeWent, take-view, StartWent, start-went}
 use Rattle.job_claim.specs.Rows.{rowOf, joined}
 use Rattle.job_claim.specs.Calls.{Call, Offer, Take, Seen, Run, nothing, step, run, begun, seenOffer, seenTake}

@@ -23,7 +23,7 @@ use Rattle.job_rules.specs.declared.Plan.{Plan}
 use Rattle.job_rules.specs.Rules.{lanesOf, R, startNumber}
 use Rattle.job.specs.declared.Job.{Job}
 use Rattle.job.specs.Calls.{mostRows, count, lentRows}
-use Rattle.rows_due.proofs.Counting.{counted-stop}
+use Rattle.job.proofs.Counting.{counted-stop}
 use Rattle.job.proofs.Views
 use Rattle.job.proofs.Views.{WholeRows, TakeWent, OfferWent}
 use Rattle.job_claim.specs.Rows.{rowOf, mattedByte, joined, resized, resizedFlag}

@@ -22,7 +22,7 @@ use Rattle.job.specs.Record.{Rules, fresh, lawful, readyOf}
 use Rattle.job.specs.Calls.{mostRows, count, lentRows, cleared, offerJob, offerWork, takeJob, takeOut, takeWork, moreTaken, rowTaken}
 use Rattle.job_rules.proofs.Rules.{rules-good}
 use Rattle.job.proofs.Views.{take-went}
-use Rattle.rows_due.proofs.Counting.{counted-stop}
+use Rattle.job.proofs.Counting.{counted-stop}
 use Rattle.job_claim.proofs.Invariant.{count-most}
 use Rattle.job_resize.specs.Inner.{Asked, restOf, fedJob, fedWork}
 use Rattle.job_resize.proofs.Going.{bytesOf, Going, rowsOf-length, going-first, remain, lent-length, offered, offer-going, take-accepted, take-going}

@@ -1,3 +1,1 @@
 pub mod DueRow
-pub mod Counting
-pub mod Stopping

@@ -1,12 +1,9 @@
 // When an output row is due (document 01, "A row goes out": the range of d; the Rust: Rescaler::has_pending_output, which has a running y_accum in
 // place of the row's number).
-use rows_schedule::rows_by;
 ghost use mathlib.Core.Path.{_≡_};
-ghost use Prim.Native.Nat.{_+_, _-_};
-ghost use Rattle.rows_schedule.specs.Schedule.{rowsBy};
+ghost use Prim.Native.Nat.{_-_};
 ghost use Rattle.rows_due.specs.Due as spec;
 ghost use Rattle.rows_due.specs.Due.{within};
-ghost use Rattle.rows_due.specs.Until.{counted};
 
 // n - 1, and 0 of 0.
 fn less_one(n: u32) -> u32
@@ -47,19 +44,4 @@ pub fn due(h: u32, g: u32, used: u32, row: u32) -> bool
     let b = less_one(g);
     let c = less_one(h);
     in_range(a as u64 * b as u64, row as u64 * c as u64, b as u64)
-}
-
-// The rows accepted where an offer stops that begins at `from` of them and has rows up to `to`: at the first that makes more than `taken` output rows, or at the last.
-// Rules out: a stop past the first row that makes an output row ready; one at a row that makes none.
-pub fn rows_until(top: u32, height: u32, target: u32, from: u32, to: u32, taken: u32) -> u32
-    ensures { λ r. ⌜ r ≡ from + counted (rowsBy top height target) from taken (to - from) ⌝ }
-{
-    let mut k = from;
-    while k < to {
-        k += 1;
-        if (taken as u64) < rows_by(top, height, target, k) {
-            return k;
-        }
-    }
-    k
 }

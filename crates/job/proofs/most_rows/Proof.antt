@@ -1,7 +1,7 @@
 -- The smaller of the rows lent and those left. Assumes nothing.
 use native.Mathlib.Omega.{arith}
 use borrow.Author.Needs.{needs}
-use Rattle.job.proofs.Feeding.{most-lent, most-left}
+use Rattle.job.proofs.Accepting.{most-lent, most-left}
 use Rattle.job.proofs.most_rows.Statement.{statement}
 use Rattle.job.proofs.most_rows.Tie as tie
 

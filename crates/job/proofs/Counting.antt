@@ -1,5 +1,5 @@
--- The rows that an offer accepts, one by one: `counted` stops at the first row that makes an output row ready, and at its bound, and is the only number that does. Assumes nothing.
-use Prim.Native.Nat.{ℕ, zero, suc, _+_, _-_, _≤_, _<_, min}
+-- The rows that an offer accepts: `counted` stops at the first row that makes an output row ready, and at its bound, and is the only number that does. Assumes nothing.
+use Prim.Native.Nat.{ℕ, zero, suc, _+_, _*_, _-_, _≤_, _<_, min}
 use mathlib.Core.Path.{_≡_, refl, sym, _∙_, ap}
 use mathlib.Core.Logic.{_⊎_, inl, inr, ⊎-elim}
 use mathlib.Core.Bool.{Bool, true, false}
@@ -8,7 +8,7 @@ use native.Mathlib.Nat.{eq-or-lt-of-le}
 use lib.Dec.{ltb}
 use borrow.Author.Tests.{ltb-true, ltb-false}
 use Rattle.pixels.proofs.Truths.{test}
-use Rattle.rows_due.specs.Until.{least, counted}
+use Rattle.job.specs.Calls.{least, counted}
 
 -- ---- the least number of a test
 module _ (P : ℕ → Bool) where
@@ -86,22 +86,19 @@ module _ (r : ℕ → ℕ) (k t : ℕ) where
       let e : counted r k t n ≡ least above 1 n = counted-of n ∙ (let m : min n (least above 1 n) < n = rw (counted-of n) at l in omega arith) in
       ltb-true t (r (k + counted r k t n)) (ap above e ∙ least-hit above 1 n (rw (← e) (omega arith)))
 
-  -- the rows before the last of them made none ready
-  counted-before : (n i : ℕ) → 0 < i → i < counted r k t n → r (k + i) ≤ t
-  counted-before n i p l =
-      let m : i < min n (least above 1 n) = rw (counted-of n) at l in
-      ltb-false t (r (k + i)) (least-below above 1 n i p (omega arith))
+  module _ (quiet : r k ≤ t) where
+    -- nothing was ready before the last of them
+    pub counted-low : (n i : ℕ) → i < counted r k t n → r (k + i) ≤ t
+    counted-low n zero l = let e : k + 0 ≡ k = omega arith in rw e quiet
+    counted-low n (suc i) l =
+        let m : suc i < min n (least above 1 n) = rw (counted-of n) at l in
+        ltb-false t (r (k + suc i)) (least-below above 1 n (suc i) (omega arith) (omega arith))
 
-  -- nor was one ready before the first
-  pub counted-low : r k ≤ t → (n i : ℕ) → i < counted r k t n → r (k + i) ≤ t
-  counted-low quiet n zero l = let e : k + 0 ≡ k = omega arith in rw e quiet
-  counted-low quiet n (suc i) l = counted-before n (suc i) (omega arith) l
-
-  -- the only number of which this is true
-  pub counted-is : (n c : ℕ) → c ≤ n → (0 < n → 0 < c) → ((i : ℕ) → 0 < i → i < c → r (k + i) ≤ t) → (c ≡ n) ⊎ (t < r (k + c)) → counted r k t n ≡ c
-  counted-is n c l some low stop = by (order (counted r k t n) c)
-    where
-      by : Order (counted r k t n) c → counted r k t n ≡ c
-      by (same e) = e
-      by (less m) = absurd (omega (arith, low (counted r k t n) (counted-some n (omega arith)) m, counted-stop n (omega arith)))
-      by (more m) = absurd (⊎-elim (λ e. omega (arith, counted-most n)) (λ s. omega (arith, counted-before n c (some (omega (arith, counted-most n))) m)) stop)
+    -- the only number of which this is true
+    pub counted-is : (n c : ℕ) → c ≤ n → ((i : ℕ) → i < c → r (k + i) ≤ t) → (c ≡ n) ⊎ (t < r (k + c)) → counted r k t n ≡ c
+    counted-is n c l low stop = by (order (counted r k t n) c)
+      where
+        by : Order (counted r k t n) c → counted r k t n ≡ c
+        by (same e) = e
+        by (less m) = absurd (omega (arith, low (counted r k t n) m, counted-stop n (omega arith)))
+        by (more m) = absurd (⊎-elim (λ e. omega (arith, counted-most n)) (λ s. omega (arith, counted-low n c m)) stop)
