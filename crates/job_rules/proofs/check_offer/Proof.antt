@@ -28,7 +28,10 @@ row-bytes-requires : tie.Need-row-bytes-requires
 row-bytes-requires c κs = search needs
 
 rem-if3 : tie.Need-rem-if3
-rem-if3 c = let q = rules-of ((c .before .before .before .before .args) .p) ((c .before .before .before .before .args) .accepted) ((c .before .before .before .before .args) .taken) ((c .before .before .before .before .args) .flag) (sym ((c .before .before .before .check-rules) .ensures) ∙ not-false _ ((c .before .before .if1) .left)) in omega (arith, (c .row-bytes) .ensures, q .sizes .source-width .some)
+rem-if3 c =
+    let a = c .before .before .before .before .args in
+    let law = sym (c .before .before .before .check-rules .ensures) ∙ not-false _ (c .before .before .if1 .left) in
+    omega (arith, c .row-bytes .ensures, rules-of (a .p) (a .accepted) (a .taken) (a .flag) law .sizes .source-width .some)
 
 returns-3 : tie.Need-returns-3
 unfolding offerNumberOf
