@@ -18,7 +18,7 @@ ghost use Rattle.pixels.specs.Sizes.{maxSide, pixelLanes};
 ghost use Rattle.pixels.specs.Refusals.{checkedNumber};
 ghost use Rattle.rows_tests.specs.Tests.{importNumber};
 ghost use Rattle.rows.specs.Import.{importHalf};
-ghost use Rattle.rows.specs.Inner.Import.{at, Four, stored, laneBytes, mattedAt, PixelAsks, Within, InLanes, GatherAsks, Gathers, Finished, ColumnAsks, Columns, writtenRow, RowAsks, Second, AdvanceAsks, Advances};
+ghost use Rattle.rows.specs.Inner.Import.{at, Four, stored, laneBytes, mattedAt, PixelAsks, Within, InLanes, GatherAsks, Gathers, Finished, ColumnAsks, Columns, writtenRow, RowAsks, AdvanceAsks, Advances};
 
 // A number for each lane, or for each byte of a pixel.
 struct Quad {
@@ -272,17 +272,6 @@ fn blend4(s: Stand, rest: u32) -> Quad
     }
 }
 
-// The pixel to the right of the first; of one pixel, itself: no pixel past the crop is read. The Rust: `right` of Rescaler::import_row_expand.
-fn second(n: usize) -> usize
-    requires { ⌜ 0 < n ⌝ }
-    ensures { λ r. ⌜ Second n r ⌝ }
-{
-    if n > 1 {
-        return 1;
-    }
-    0
-}
-
 // One column on: by `step` of the parts, into the next pixel where the left one has fewer.
 fn advance(row: &[u8], span: u32, step: u32, mut s: Stand, p: Places) -> Stand
     requires { ⌜ AdvanceAsks (now row) (length (now row) / pixelLanes) span step (s .left) (s .right) (s .x) (s .acc) p ⌝ }
@@ -312,8 +301,8 @@ fn grow_row(row: &[u8], n: usize, m: usize, p: Places, half: &mut [u32])
     let span = (m - 1) as u32;
     let step = (n - 1) as u32;
     let left = read_lanes(row, 0, p);
-    let beside = second(n);
-    let right = read_lanes(row, beside, p);
+    // The second pixel; of one pixel, itself: no pixel past the crop is read. The Rust: `right` of Rescaler::import_row_expand.
+    let right = read_lanes(row, 1 % n, p);
     let mut s = Stand {
         left,
         right,
