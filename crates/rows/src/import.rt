@@ -333,17 +333,17 @@ pub fn import_row(
 {
     let checked = check_import(crop_width, target_width, row.len(), half.len());
     match checked {
-        Checked::Refused(why) => Checked::Refused(why),
+        Checked::Refused(_) => {}
         Checked::Fit => {
             let n = crop_width as usize;
             let m = target_width as usize;
             let p = layout.places();
             if m <= n {
                 shrink_row(row, n, m, p, half);
-                return Checked::Fit;
+            } else {
+                grow_row(row, n, m, p, half);
             }
-            grow_row(row, n, m, p, half);
-            Checked::Fit
         }
     }
+    checked
 }
