@@ -1,6 +1,6 @@
 /* The port behind the oracle's job stream (README.md has the format): a line for each job on standard output.
  *
- *   cc -O2 ours.c ADAPTER.c target/staticlib/libcapi.a -o ours && ./ours < jobs > answers
+ *   cc -O2 ours.c ADAPTER.c target/staticlib/libjonquilsaw.a -o ours && ./ours < jobs > answers
  *
  * Each lent buffer lies between two guards. The last word of an answer is 1 if guards, inputs and work values that were not
  * lent are as they were. */

@@ -1,6 +1,6 @@
 -- What the loop of an offer keeps (document 01: "stops at the first row that makes an output row ready, at the last offered or at the source's last"):
 -- none was ready before the last row, and the rows so far are in the work rows. Where it stops, the rows so far are the count. Assumes nothing.
-use Prim.Native.Nat.{ℕ, zero, suc, _+_, _*_, _-_, _/_, _%_, _≤_, _<_, min}
+use Prim.Native.Nat.{ℕ, zero, suc, _+_, _*_, _-_, _/_, _≤_, _<_}
 use mathlib.Core.Path.{_≡_, refl, sym, _∙_, ap}
 use mathlib.Core.Logic.{_⊎_, inl, inr}
 use mathlib.Core.List.{List}
@@ -9,16 +9,18 @@ use native.Mathlib.Nat.{div-add-mod, mul-le-mul-left, le-trans}
 use native.Mathlib.Numerals.{add-one}
 use lib.ListN.{length, take, drop, length-drop}
 use lib.Seq.{length-take-le}
-use Rattle.pixels.specs.Sizes.{rowBytes, workValues}
+use Rattle.pixels.specs.Sizes.{rowBytes}
 use Rattle.pixels_crop.specs.Crop.{pictureRow}
 use Rattle.pixels_crop.proofs.Windows.{row-part}
 use Rattle.rows_schedule.proofs.Crop.{rows-le}
-use Rattle.job.specs.declared.Plan.{Plan}
+use Rattle.rows_in.specs.In.{inWork}
+use Rattle.job_rules.specs.declared.Plan.{Plan}
 use Rattle.job.specs.declared.Job.{Job}
-use Rattle.job.specs.Record.{lanesOf, R, Rules}
+use Rattle.job_rules.specs.Rules.{lanesOf, R}
 use Rattle.job.specs.Inner.{RowAsks}
 use Rattle.job.specs.Calls.{lentRows, mostRows, count, rowAccepted, fed, offerNumber}
 use Rattle.job.proofs.Counting.{counted-is}
+use Rattle.job.proofs.RowIn.{row-in}
 use Rattle.job.proofs.Views.{OfferWent, offer-went}
 
 -- ---- the most rows there may be, as the code finds them; s is the length of a source row
@@ -88,11 +90,18 @@ module _ (j : Job) (rows before : List ℕ) (most : ℕ) (goes : offerNumber j (
       pub in-lent : s * i + s ≤ length rows
       in-lent = rw s-is whole-row
 
-      pub lent-row : take (s * i + s - s * i) (drop (s * i) rows) ≡ pictureRow (lanesOf (j .plan)) rows (j .plan .source .width) i
-      lent-row = rw s-is (row-part (lanesOf (j .plan)) rows (j .plan .source .width) i)
+      abbrev row : List ℕ
+      row = take (s * i + s - s * i) (drop (s * i) rows)
 
-      pub lent-asks : RowAsks (j .plan) (take (s * i + s - s * i) (drop (s * i) rows)) work
-      lent-asks = record { fits = o .rules .sizes; long = ap length lent-row ∙ picture-row-long; room = omega (arith, o .room, a .long) }
+      row-is : row ≡ pictureRow (lanesOf (j .plan)) rows (j .plan .source .width) i
+      row-is = rw s-is (row-part (lanesOf (j .plan)) rows (j .plan .source .width) i)
+
+      asks : RowAsks (j .plan) row work
+      asks = record { fits = o .rules .sizes; long = ap length row-is ∙ picture-row-long; room = omega (arith, o .room, a .long) }
+
+      pub next-fed : (next : List ℕ) → next ≡ inWork (j .plan .layout) (j .plan .crop) (j .plan .target) (j .accepted + i) row work
+          → next ≡ fed (j .plan) rows (j .accepted) (i + 1) before
+      next-fed next e = e ∙ row-in (j .plan) row (j .accepted + i) work asks ∙ rw (row-is, a .fed-is) (fed-more (j .plan) rows before (j .accepted) i)
 
     pub in-range : j .accepted + i < 16384
     in-range = omega (arith, a .left, o .rules .sizes .source-height .most)
@@ -115,17 +124,14 @@ module _ (j : Job) (rows before : List ℕ) (most : ℕ) (goes : offerNumber j (
         sym (counted-is (R (j .plan)) (j .accepted) (j .taken) (o .none-ready) (mostRows j (length rows)) (i + 1) (omega (arith, a .left)) still (inr l))
 
     -- after a row has come in
-    module _ (next row : List ℕ) (row-is : row ≡ pictureRow (lanesOf (j .plan)) rows (j .plan .source .width) i) (e : next ≡ rowAccepted (j .plan) row (j .accepted + i) work) where
-      next-fed : next ≡ fed (j .plan) rows (j .accepted) (i + 1) before
-      next-fed = e ∙ rw (row-is, a .fed-is) (fed-more (j .plan) rows before (j .accepted) i)
-
+    module _ (next : List ℕ) (e : next ≡ fed (j .plan) rows (j .accepted) (i + 1) before) where
       pub next-count : i + 1 ≡ count j (length rows) → next ≡ fed (j .plan) rows (j .accepted) (count j (length rows)) before
-      next-count q = next-fed ∙ ap (λ (x : ℕ). fed (j .plan) rows (j .accepted) x before) q
+      next-count q = e ∙ ap (λ (x : ℕ). fed (j .plan) rows (j .accepted) x before) q
 
       pub accepting-more : length next ≡ length work → (i + 1 ≡ most → ⊥) → R (j .plan) (j .accepted + (i + 1)) ≤ j .taken → Accepting j rows before most next (i + 1)
       accepting-more len ne l = record {
         left = omega (arith, a .left, ne);
         quiet = l;
-        fed-is = next-fed;
+        fed-is = e;
         long = len ∙ a .long;
       }

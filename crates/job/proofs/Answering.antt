@@ -12,10 +12,11 @@ use Rattle.pixels.specs.Refusals.{number}
 use Rattle.pixels.specs.Sizes.{workValues}
 use Rattle.pixels.proofs.Numbers.{not-zero}
 use Rattle.rows_schedule.proofs.Crop.{rows-most}
-use Rattle.job.specs.declared.Plan.{Plan}
+use Rattle.job_rules.specs.declared.Plan.{Plan}
+use Rattle.job_rules.specs.Rules.{lanesOf, R, startNumber}
 use Rattle.job.specs.declared.Job.{Job}
-use Rattle.job.specs.Record.{lanesOf, R, fresh, Rules}
-use Rattle.job.specs.Calls.{startNumber, startWork, mostRows, offerNumber, offerRows, offerJob, offerWork, count, moreAccepted, fed, takeNumber, takeJob, takeOut, takeWork, moreTaken, rowTaken, workTaken}
+use Rattle.job.specs.Record.{fresh, Rules}
+use Rattle.job.specs.Calls.{startWork, mostRows, offerNumber, offerRows, offerJob, offerWork, count, moreAccepted, fed, takeNumber, takeJob, takeOut, takeWork, moreTaken, rowTaken, workTaken}
 use Rattle.job.proofs.Counting.{counted-most}
 use Rattle.job.proofs.Views.{offer-went, offer-turned, take-went, take-turned}
 

@@ -1,10 +1,8 @@
-pub mod Rules
-pub mod Counting
 pub mod Views
+pub mod Ready
 pub mod Answering
 pub mod RowIn
-pub mod Restoring
+pub mod Counting
 pub mod Accepting
 pub mod RowOut
 pub mod Lengths
-pub mod Testing

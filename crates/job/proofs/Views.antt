@@ -10,16 +10,24 @@ use lib.Dec.{eqb, leb, ltb}
 use lib.ListN.{length}
 use borrow.Author.Tests.{lt-ltb, le-ltb, le-leb, lt-leb, eq-eqb, ne-eqb, leb-false, eqb-true, eqb-false, ltb-false}
 use Rattle.pixels.specs.declared.Refusal.the-variants.{RowReady, AllAccepted, NoneReady}
-use Rattle.pixels.specs.Refusals.{number}
+use Rattle.pixels.specs.Refusals.{Cause, number}
 use Rattle.pixels.specs.Sizes.{rowBytes, workValues, sizesCauses, sizesNumber, Fits}
 use Rattle.pixels.proofs.Fitting.{fits-of}
 use Rattle.pixels.proofs.Truths.{test, neither-true, not-false, same, same-of}
 use Rattle.pixels.proofs.Causes.{first-at, first-none, none-applies}
-use Rattle.job.specs.declared.Plan.{Plan}
+use Rattle.job_rules.specs.declared.Plan.{Plan}
+use Rattle.job_rules.specs.Rules.{lanesOf, R, startCauses, startNumber, badRows, offerCauses, offerNumberOf, takeCauses, takeNumberOf}
 use Rattle.job.specs.declared.Job.{Job}
-use Rattle.job.specs.Record.{lanesOf, R, lawful, Rules}
-use Rattle.job.specs.Calls.{startCauses, startNumber, startWork, cleared, badRows, offerCauses, offerNumber, offerRows, offerJob, offerWork, count, moreAccepted, fed, takeCauses, takeNumber, takeJob, takeOut, takeWork, moreTaken, rowTaken, workTaken}
-use Rattle.job.proofs.Rules.{rules-of, rules-good}
+use Rattle.job.specs.Record.{lawful, Rules}
+use Rattle.job.specs.Calls.{startWork, cleared, offerNumber, offerRows, offerJob, offerWork, count, moreAccepted, fed, takeNumber, takeJob, takeOut, takeWork, moreTaken, rowTaken, workTaken}
+use Rattle.job_rules.proofs.Rules.{rules-of, rules-good}
+
+-- the causes of a record, in their order
+abbrev offerTests : Job → ℕ → ℕ → List Cause
+offerTests j n w = offerCauses (j .plan) (j .accepted) (j .taken) (j .flag) n w
+
+abbrev takeTests : Job → ℕ → ℕ → List Cause
+takeTests j n w = takeCauses (j .plan) (j .accepted) (j .taken) (j .flag) n w
 
 -- ---- lengths that are right
 pub record WholeRows (p : Plan) (n : ℕ) : Type 0 where
@@ -41,11 +49,11 @@ room-of p w e = ltb-false w _ e
 room-good : (p : Plan) (w : ℕ) → workValues (lanesOf p) (p .target .width) ≤ w → ltb w (workValues (lanesOf p) (p .target .width)) ≡ false
 room-good p w h = le-ltb w (workValues (lanesOf p) (p .target .width)) h
 
-lawful-of : (j : Job) → not (lawful j) ≡ false → Rules j
-lawful-of j e = rules-of j (not-false (lawful j) e)
+pub lawful-of : (j : Job) → not (lawful j) ≡ false → Rules j
+lawful-of j e = rules-of (j .plan) (j .accepted) (j .taken) (j .flag) (not-false (lawful j) e)
 
 lawful-good : (j : Job) → Rules j → not (lawful j) ≡ false
-lawful-good j r = simp (rules-good j r)
+lawful-good j r = simp (rules-good (j .plan) (j .accepted) (j .taken) (j .flag) r)
 
 -- ---- start
 pub record StartWent (p : Plan) (work : List ℕ) : Type 0 where
@@ -81,9 +89,9 @@ pub record OfferWent (j : Job) (rows work : List ℕ) : Type 0 where
   pub work-after : offerWork j rows work ≡ fed (j .plan) rows (j .accepted) (count j (length rows)) work
 
 pub offer-went : (j : Job) (rows work : List ℕ) → offerNumber j (length rows) (length work) ≡ 0 → OfferWent j rows work
-unfolding offerNumber offerRows offerJob offerWork
+unfolding offerNumberOf offerRows offerJob offerWork
 offer-went j rows work e =
-    let q = none-applies (offerCauses j (length rows) (length work)) e in
+    let q = none-applies (offerTests j (length rows) (length work)) e in
     record {
       rules = lawful-of j (q .0);
       whole = whole-of (j .plan) (length rows) (q .1 .0);
@@ -120,22 +128,22 @@ module _ (j : Job) (n w : ℕ) (rules : Rules j) (whole : WholeRows (j .plan) n)
   room-passes = room-good (j .plan) w room
 
   pub offer-goes : R (j .plan) (j .accepted) ≤ j .taken → j .accepted < j .plan .source .height → offerNumber j n w ≡ 0
-  unfolding offerNumber
+  unfolding offerNumberOf
   offer-goes a b =
       let quiet = le-ltb (j .taken) (R (j .plan) (j .accepted)) a in
       let left = lt-leb (j .plan .source .height) (j .accepted) b in
-      first-none (offerCauses j n w) (lawful-passes, (rows-pass, (room-passes, (quiet, (left, tt)))))
+      first-none (offerTests j n w) (lawful-passes, (rows-pass, (room-passes, (quiet, (left, tt)))))
 
   pub offer-ready : j .taken < R (j .plan) (j .accepted) → offerNumber j n w ≡ number RowReady
-  unfolding offerNumber
+  unfolding offerNumberOf
   offer-ready a =
-      first-at (offerCauses j n w) 3 (lawful-passes, (rows-pass, (room-passes, tt))) (lt-ltb (j .taken) (R (j .plan) (j .accepted)) a)
+      first-at (offerTests j n w) 3 (lawful-passes, (rows-pass, (room-passes, tt))) (lt-ltb (j .taken) (R (j .plan) (j .accepted)) a)
 
   pub offer-all : R (j .plan) (j .accepted) ≤ j .taken → j .plan .source .height ≤ j .accepted → offerNumber j n w ≡ number AllAccepted
-  unfolding offerNumber
+  unfolding offerNumberOf
   offer-all a b =
       let quiet = le-ltb (j .taken) (R (j .plan) (j .accepted)) a in
-      first-at (offerCauses j n w) 4 (lawful-passes, (rows-pass, (room-passes, (quiet, tt)))) (le-leb (j .plan .source .height) (j .accepted) b)
+      first-at (offerTests j n w) 4 (lawful-passes, (rows-pass, (room-passes, (quiet, tt)))) (le-leb (j .plan .source .height) (j .accepted) b)
 
 -- ---- take
 pub record TakeTurned (j : Job) (out work : List ℕ) : Type 0 where
@@ -155,9 +163,9 @@ pub record TakeWent (j : Job) (out work : List ℕ) : Type 0 where
   pub out-after : takeOut j out work ≡ rowTaken j work
 
 pub take-went : (j : Job) (out work : List ℕ) → takeNumber j (length out) (length work) ≡ 0 → TakeWent j out work
-unfolding takeNumber takeJob takeWork takeOut
+unfolding takeNumberOf takeJob takeWork takeOut
 take-went j out work e =
-    let q = none-applies (takeCauses j (length out) (length work)) e in
+    let q = none-applies (takeTests j (length out) (length work)) e in
     record {
       rules = lawful-of j (q .0);
       exact = same-of (length out) _ (q .1 .0);
@@ -192,13 +200,13 @@ module _ (j : Job) (n w : ℕ) (rules : Rules j) (exact : n ≡ rowBytes (lanesO
   room-good-take = room-good (j .plan) w room
 
   pub take-goes : j .taken < R (j .plan) (j .accepted) → takeNumber j n w ≡ 0
-  unfolding takeNumber
+  unfolding takeNumberOf
   take-goes a =
       let ready = lt-leb (R (j .plan) (j .accepted)) (j .taken) a in
-      first-none (takeCauses j n w) (lawful-good-take, (length-passes, (room-good-take, (ready, tt))))
+      first-none (takeTests j n w) (lawful-good-take, (length-passes, (room-good-take, (ready, tt))))
 
   pub take-none : R (j .plan) (j .accepted) ≤ j .taken → takeNumber j n w ≡ number NoneReady
-  unfolding takeNumber
+  unfolding takeNumberOf
   take-none a =
       let away = le-leb (R (j .plan) (j .accepted)) (j .taken) a in
-      first-at (takeCauses j n w) 3 (lawful-good-take, (length-passes, (room-good-take, tt))) away
+      first-at (takeTests j n w) 3 (lawful-good-take, (length-passes, (room-good-take, tt))) away

@@ -1,40 +1,25 @@
 -- What start, offer and take answer and leave in every buffer (document 01, "The job" and "Why a call is turned away"), for every record and any contents
 -- of the work values. Assumes nothing.
-use Prim.Native.Nat.{ℕ, zero, suc, _+_, _-_, _*_, _/_, _%_, min}
-use mathlib.Core.Bool.{Bool, cond, not, _||_, _&&_}
-use mathlib.Core.List.{List, [], _∷_, _++_}
-use lib.Dec.{eqb, leb, ltb}
+use Prim.Native.Nat.{ℕ, zero, suc, _+_, _-_, _/_, min}
+use mathlib.Core.Bool.{Bool, cond, _||_}
+use mathlib.Core.List.{List, _++_}
+use lib.Dec.{eqb, ltb}
 use lib.ListN.{length, drop, replicate}
 use Rattle.arithmetic.specs.Table.{tabulate}
 use Rattle.arithmetic.specs.Weight.{span}
-use Rattle.pixels.specs.declared.Refusal.the-variants.{PixelBufferMismatch, OutputLength, WorkLength, InvalidRecord, RowReady, AllAccepted, NoneReady}
-use Rattle.pixels.specs.Refusals.{Cause, cause, first, otherLength, fewWork}
-use Rattle.pixels.specs.Sizes.{rowBytes, halfValues, workValues, sizesCauses}
+use Rattle.pixels.specs.Sizes.{rowBytes, halfValues, workValues}
 use Rattle.pixels_layout.specs.Lanes.{matted, restoredPlace}
 use Rattle.pixels_alpha.specs.Alpha.{hasAlpha}
 use Rattle.pixels_crop.specs.Crop.{windowOf, pictureRow}
 use Rattle.rows_schedule.specs.Schedule.{used}
 use Rattle.rows.specs.Lanes.{rowValue}
 use Rattle.rows.specs.WorkRows.{Scale, rowIn, byteOut, rowLeft}
-use Rattle.job.specs.declared.Plan.{Plan}
+use Rattle.rows_in.specs.In.{inCrop}
+use Rattle.job_rules.specs.declared.Plan.{Plan}
+use Rattle.job_rules.specs.Rules.{lanesOf, R, startNumber, offerNumberOf, takeNumberOf}
 use Rattle.job.specs.declared.Job.{Job}
-use Rattle.job.specs.Record.{lanesOf, R, lawful}
 
--- "fewer than 8 × target width work values", w being lent
-abbrev pub shortWork : Plan → ℕ → Cause
-shortWork p w = fewWork w (workValues (lanesOf p) (p .target .width))
-
--- "record breaks the rules"
-abbrev pub badRecord : Job → Cause
-badRecord j = cause (not (lawful j)) InvalidRecord
-
--- ---- start: 1, 2, 5
-
-abbrev pub startCauses : Plan → ℕ → List Cause
-startCauses p w = sizesCauses (p .source) (p .crop) (p .target) ++ (shortWork p w ∷ [])
-
-unfoldable pub startNumber : Plan → ℕ → ℕ
-startNumber p w = first (startCauses p w)
+-- ---- start
 
 -- "start clears both, and the rest is untouched"
 abbrev pub cleared : Plan → List ℕ → List ℕ
@@ -54,10 +39,6 @@ scaleBy p = record {
   w = halfValues (lanesOf p) (p .target .width);
 }
 
--- source row s is inside the crop's height
-abbrev pub inCrop : Plan → ℕ → Bool
-inCrop p s = leb (p .crop .y) s && ltb s (p .crop .y + p .crop .height)
-
 -- the values of a source row: its crop window, matted, each lane alone
 abbrev pub valuesOf : Plan → List ℕ → ℕ → ℕ
 valuesOf p row =
@@ -66,7 +47,7 @@ valuesOf p row =
 -- source row s, its bytes being row: "Rows outside the crop count and touch no work value"
 unfoldable pub rowAccepted : Plan → List ℕ → ℕ → List ℕ → List ℕ
 rowAccepted p row s work =
-    cond (inCrop p s)
+    cond (inCrop (p .crop) s)
     (rowIn (scaleBy p) (s - p .crop .y) (valuesOf p row) work)
     work
 
@@ -75,24 +56,11 @@ unfoldable pub fed : Plan → List ℕ → ℕ → ℕ → List ℕ → List ℕ
 fed p rows k zero work = work
 fed p rows k (suc c) work = rowAccepted p (pictureRow (lanesOf p) rows (p .source .width) c) (k + c) (fed p rows k c work)
 
--- ---- offer: 6, 3, 5, 7, 8
-
--- "offered bytes empty or no whole number of source rows"
-abbrev pub badRows : Plan → ℕ → Bool
-badRows p n = eqb n 0 || not (eqb (n % rowBytes (lanesOf p) (p .source .width)) 0)
+-- ---- offer
 
 -- of n bytes lent and w work values
-abbrev pub offerCauses : Job → ℕ → ℕ → List Cause
-offerCauses j n w =
-    badRecord j
-    ∷ cause (badRows (j .plan) n) PixelBufferMismatch
-    ∷ shortWork (j .plan) w
-    ∷ cause (ltb (j .taken) (R (j .plan) (j .accepted))) RowReady
-    ∷ cause (leb (j .plan .source .height) (j .accepted)) AllAccepted
-    ∷ []
-
-unfoldable pub offerNumber : Job → ℕ → ℕ → ℕ
-offerNumber j n w = first (offerCauses j n w)
+abbrev pub offerNumber : Job → ℕ → ℕ → ℕ
+offerNumber j n w = offerNumberOf (j .plan) (j .accepted) (j .taken) (j .flag) n w
 
 -- the least number from c up, among n of them, for which the test is true; the one after them where there is none
 unfoldable pub least : (ℕ → Bool) → ℕ → ℕ → ℕ
@@ -130,19 +98,11 @@ offerWork j rows work =
     (fed (j .plan) rows (j .accepted) (count j (length rows)) work)
     work
 
--- ---- take: 6, 4, 5, 9
+-- ---- take
 
 -- of n bytes of output and w work values
-abbrev pub takeCauses : Job → ℕ → ℕ → List Cause
-takeCauses j n w =
-    badRecord j
-    ∷ otherLength n (rowBytes (lanesOf (j .plan)) (j .plan .target .width)) OutputLength
-    ∷ shortWork (j .plan) w
-    ∷ cause (leb (R (j .plan) (j .accepted)) (j .taken)) NoneReady
-    ∷ []
-
-unfoldable pub takeNumber : Job → ℕ → ℕ → ℕ
-takeNumber j n w = first (takeCauses j n w)
+abbrev pub takeNumber : Job → ℕ → ℕ → ℕ
+takeNumber j n w = takeNumberOf (j .plan) (j .accepted) (j .taken) (j .flag) n w
 
 -- u, the crop rows used
 abbrev pub usedBy : Job → ℕ

@@ -4,8 +4,8 @@ use mathlib.Core.Path.{_≡_}
 use mathlib.Core.List.{List}
 use lib.ListN.{length}
 use Rattle.pixels.specs.Sizes.{rowBytes, workValues, Fits}
-use Rattle.job.specs.declared.Plan.{Plan}
-use Rattle.job.specs.Record.{lanesOf}
+use Rattle.job_rules.specs.declared.Plan.{Plan}
+use Rattle.job_rules.specs.Rules.{lanesOf}
 
 -- a source row as lent, and enough work values
 pub record RowAsks (p : Plan) (row work : List ℕ) : Type 0 where

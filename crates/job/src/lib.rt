@@ -1,40 +1,30 @@
 // The job (document 01, "The job"; the Rust: Rescaler and rescale_plane of geometry.rs): a record by value that every call takes and hands back.
 // The caller lends the rows, the work values and the output row. Fields are public: a record that meets the rules counts, whoever filled it.
+use job_rules::Plan;
+use job_rules::check_offer;
+use job_rules::check_rules;
+use job_rules::check_start;
+use job_rules::check_take;
+use job_rules::row_bytes;
 use pixels::Checked;
 use pixels::Dimensions;
 use pixels::Flagged;
-use pixels::PIXEL_LANES;
 use pixels::Rect;
 use pixels::Refusal;
-use pixels::check_sizes;
-use pixels_crop::window;
 use pixels_layout::PixelLayout;
-use rows_adding::put_row;
-use rows_restoring::restore_row;
-use rows_scaling::scale_row;
-use rows_schedule::counts_fit;
+use rows_in::put_source_row;
+use rows_out::take_row;
 use rows_schedule::rows_by;
-use rows_schedule::used_rows;
 ghost use mathlib.Core.Path.{_≡_};
 ghost use mathlib.Core.Bool.{_||_};
 ghost use mathlib.Core.List.{_++_};
 ghost use Prim.Native.Nat.{_≤_};
-ghost use lib.Dec.{ltb};
 ghost use lib.ListN.{length, drop, replicate};
-ghost use Rattle.pixels.specs.Refusals.{checkedNumber, flaggedFlag};
-ghost use Rattle.pixels.specs.Sizes.{rowBytes, workValues};
+ghost use Rattle.pixels.specs.Refusals.{flaggedFlag};
+ghost use Rattle.job_rules.specs.Rules.{planOf, startNumber};
 ghost use Rattle.job.specs.Answers.{startedNumber, startedJob, offeredNumber, offeredRows, offeredJob, takenNumber, takenJob};
-ghost use Rattle.job.specs.Record.{lanesOf, R, planOf, fresh, lawful, readyOf, Rules};
-ghost use Rattle.job.specs.Inner.{RowAsks};
-ghost use Rattle.job.specs.Calls.{startNumber, startWork, mostRows, rowAccepted, fed, count, offerNumber, offerRows, offerJob, offerWork, takeNumber, moreTaken, rowTaken, workTaken, takeJob, takeOut, takeWork};
-
-// What does not change in a job.
-pub struct Plan {
-    pub source: Dimensions,
-    pub layout: PixelLayout,
-    pub crop: Rect,
-    pub target: Dimensions,
-}
+ghost use Rattle.job.specs.Record.{fresh, lawful, readyOf, Rules};
+ghost use Rattle.job.specs.Calls.{startWork, mostRows, fed, count, offerNumber, offerRows, offerJob, offerWork, takeNumber, moreTaken, rowTaken, workTaken, takeJob, takeOut, takeWork};
 
 // The record: the plan, source rows accepted, preview rows taken, and whether a taken row had an alpha byte other than 255.
 pub struct Job {
@@ -62,28 +52,7 @@ pub enum Taken {
     Refused { why: Refusal, job: Job },
 }
 
-// ---- numbers
-
-// The bytes of a row of `width` pixels, which are also the values of a half: the one place that knows a job's lanes.
-fn row_bytes(p: Plan, width: u32) -> usize
-    ensures { λ r. ⌜ r ≡ rowBytes (lanesOf p) width ⌝ }
-{
-    PIXEL_LANES * width as usize
-}
-
-// Fewer than two halves of work values.
-fn short_work(p: Plan, n: usize) -> bool
-    ensures { λ r. ⌜ r ≡ ltb n (workValues (lanesOf p) (p .target .width)) ⌝ }
-{
-    n < 2 * row_bytes(p, p.target.width)
-}
-
-// R(k). A row is ready while it is above the rows taken: the Rust's Rescaler::has_pending_output, there by an accumulator.
-fn made(p: Plan, accepted: u32) -> u64
-    ensures { λ r. ⌜ r ≡ R p accepted ⌝ }
-{
-    rows_by(p.crop.y, p.crop.height, p.target.height, accepted)
-}
+// ---- rows come in
 
 // The rows lent or those that the source has left, whichever are fewer; n is the number of bytes lent.
 fn most_rows(j: Job, n: usize) -> u32
@@ -98,91 +67,6 @@ fn most_rows(j: Job, n: usize) -> u32
     left
 }
 
-// ---- the tests of each call, in their order
-
-fn check_start(p: Plan, work: usize) -> Checked
-    ensures { λ r. ⌜ checkedNumber r ≡ startNumber p work ⌝ }
-{
-    let checked = check_sizes(p.source, p.crop, p.target);
-    match checked {
-        Checked::Refused(why) => {
-            return Checked::Refused(why);
-        }
-        Checked::Fit => {}
-    }
-    if short_work(p, work) {
-        return Checked::Refused(Refusal::WorkLength);
-    }
-    Checked::Fit
-}
-
-// Of the bytes lent and the work values.
-fn check_offer(j: Job, bytes: usize, work: usize) -> Checked
-    ensures { λ r. ⌜ checkedNumber r ≡ offerNumber j bytes work ⌝ }
-{
-    if !j.check() {
-        return Checked::Refused(Refusal::InvalidRecord);
-    }
-    if bytes == 0 {
-        return Checked::Refused(Refusal::PixelBufferMismatch);
-    }
-    if bytes % row_bytes(j.plan, j.plan.source.width) != 0 {
-        return Checked::Refused(Refusal::PixelBufferMismatch);
-    }
-    if short_work(j.plan, work) {
-        return Checked::Refused(Refusal::WorkLength);
-    }
-    if (j.taken as u64) < made(j.plan, j.accepted) {
-        return Checked::Refused(Refusal::RowReady);
-    }
-    if j.plan.source.height <= j.accepted {
-        return Checked::Refused(Refusal::AllAccepted);
-    }
-    Checked::Fit
-}
-
-// Of the bytes of output and the work values.
-fn check_take(j: Job, bytes: usize, work: usize) -> Checked
-    ensures { λ r. ⌜ checkedNumber r ≡ takeNumber j bytes work ⌝ }
-{
-    if !j.check() {
-        return Checked::Refused(Refusal::InvalidRecord);
-    }
-    if bytes != row_bytes(j.plan, j.plan.target.width) {
-        return Checked::Refused(Refusal::OutputLength);
-    }
-    if short_work(j.plan, work) {
-        return Checked::Refused(Refusal::WorkLength);
-    }
-    if made(j.plan, j.accepted) <= j.taken as u64 {
-        return Checked::Refused(Refusal::NoneReady);
-    }
-    Checked::Fit
-}
-
-// ---- a row comes in
-
-// Source row s. The Rust: a turn of Rescaler::import. Its crop window is a part of the row as lent; the layer below does not refuse it.
-fn row_in(p: Plan, row: &[u8], s: u32, work: &mut [u32])
-    requires { ⌜ RowAsks p (now row) (now work) ⌝ }
-    ensures { λ _. ⌜ now (work .exit) ≡ rowAccepted p (now (row .entry)) s (now (work .entry)) ⌝ }
-{
-    if s < p.crop.y {
-        return;
-    }
-    let c = s - p.crop.y;
-    if p.crop.height <= c {
-        return;
-    }
-    let part = window(row, p.crop.x, p.crop.width);
-    let crop = Dimensions {
-        width: p.crop.width,
-        height: p.crop.height,
-    };
-    let layout = p.layout;
-    put_row(layout, crop, p.target, c, part, work);
-}
-
 // The rows of an offer that passed its tests, one after another (the Rust: Rescaler::import): "stops at the first row that makes an output row ready, at the last offered or at
 // the source's last".
 fn accept(j: Job, rows: &[u8], work: &mut [u32]) -> u32
@@ -190,17 +74,27 @@ fn accept(j: Job, rows: &[u8], work: &mut [u32]) -> u32
     ensures rows { λ r. ⌜ r ≡ count j (length (now (rows .entry))) ⌝ }
     ensures work { λ _. ⌜ now (work .exit) ≡ fed (j .plan) (now (rows .entry)) (j .accepted) (count j (length (now (rows .entry)))) (now (work .entry)) ⌝ }
 {
+    let p = j.plan;
+    let layout = p.layout;
     let most = most_rows(j, rows.len());
-    let stride = row_bytes(j.plan, j.plan.source.width);
+    let stride = row_bytes(p, p.source.width);
     let mut i: u32 = 0;
     let n = loop {
         let at = stride * i as usize;
-        row_in(j.plan, &rows[at..at + stride], j.accepted + i, work);
+        put_source_row(
+            layout,
+            p.crop,
+            p.target,
+            j.accepted + i,
+            &rows[at..at + stride],
+            work,
+        );
         i += 1;
         if i == most {
             break i;
         }
-        if (j.taken as u64) < made(j.plan, j.accepted + i) {
+        let made = rows_by(p.crop.y, p.crop.height, p.target.height, j.accepted + i);
+        if (j.taken as u64) < made {
             break i;
         }
     };
@@ -209,20 +103,20 @@ fn accept(j: Job, rows: &[u8], work: &mut [u32]) -> u32
 
 // ---- a row goes out
 
-// The flag so far, joined by that of the row just restored.
-fn flag_after(flag: bool, restored: Flagged) -> bool
-    ensures { λ r. ⌜ r ≡ (flag || flaggedFlag restored) ⌝ }
+// The flag so far, joined by that of the row just made.
+fn flag_after(flag: bool, made: Flagged) -> bool
+    ensures { λ r. ⌜ r ≡ (flag || flaggedFlag made) ⌝ }
 {
     if flag {
         return true;
     }
-    match restored {
+    match made {
         Flagged::Flag(f) => f,
         Flagged::Refused(_) => false,
     }
 }
 
-// The row of a take that passed its tests; returns the record's next flag. The Rust: Rescaler::export and the end of resize. The layer below refuses neither call.
+// The row of a take that passed its tests; returns the record's next flag. The layer below does not refuse it.
 fn row_out(j: Job, out: &mut [u8], work: &mut [u32]) -> bool
     requires { ⌜ takeNumber j (length (now out)) (length (now work)) ≡ 0 ⌝ }
     ensures flag { λ r. ⌜ r ≡ moreTaken j (rowTaken j (now (work .entry))) .flag ⌝ }
@@ -230,15 +124,9 @@ fn row_out(j: Job, out: &mut [u8], work: &mut [u32]) -> bool
     ensures work { λ _. ⌜ now (work .exit) ≡ workTaken j (now (work .entry)) ⌝ }
 {
     let p = j.plan;
-    let used = used_rows(p.crop.y, p.crop.height, j.accepted);
-    let crop = Dimensions {
-        width: p.crop.width,
-        height: p.crop.height,
-    };
-    scale_row(crop, p.target, used, j.taken, out, work);
     let layout = p.layout;
-    let restored = restore_row(layout, p.target.width, out);
-    flag_after(j.flag, restored)
+    let made = take_row(layout, p.crop, p.target, j.accepted, j.taken, out, work);
+    flag_after(j.flag, made)
 }
 
 // ---- the calls
@@ -292,43 +180,24 @@ pub fn start(
 }
 
 impl Job {
-    // The record rules. Rules out: a flag before the first row taken; the rows accepted held to the crop's height.
+    // The record rules. Rules out: the rows accepted and the rows taken exchanged; a flag before the first row taken.
     pub fn check(self) -> bool
         ensures { λ r. ⌜ r ≡ lawful self ⌝ }
     {
-        let p = self.plan;
-        let checked = check_sizes(p.source, p.crop, p.target);
-        match checked {
-            Checked::Refused(_) => {
-                return false;
-            }
-            Checked::Fit => {}
-        }
-        if !counts_fit(
-            p.crop.y,
-            p.crop.height,
-            p.target.height,
-            p.source.height,
-            self.accepted,
-            self.taken,
-        ) {
-            return false;
-        }
-        if self.taken != 0 {
-            return true;
-        }
-        !self.flag
+        check_rules(self.plan, self.accepted, self.taken, self.flag)
     }
 
     // The output rows that are ready; none of a record that breaks the rules.
-    // Rules out: rows counted that were taken; rows that the next source row makes.
+    // Rules out: rows counted that were taken; a row ready of a record that breaks the rules.
     pub fn ready(self) -> u32
         ensures { λ r. ⌜ r ≡ readyOf self ⌝ }
     {
         if !self.check() {
             return 0;
         }
-        (made(self.plan, self.accepted) - self.taken as u64) as u32
+        let p = self.plan;
+        let made = rows_by(p.crop.y, p.crop.height, p.target.height, self.accepted);
+        (made - self.taken as u64) as u32
     }
 
     // Offers one or more whole source rows; returns how many were accepted.
@@ -339,7 +208,14 @@ impl Job {
         ensures job { λ r. ⌜ offeredJob r ≡ offerJob self (length (now (rows .entry))) (length (now (work .entry))) ⌝ }
         ensures work { λ _. ⌜ now (work .exit) ≡ offerWork self (now (rows .entry)) (now (work .entry)) ⌝ }
     {
-        let checked = check_offer(self, rows.len(), work.len());
+        let checked = check_offer(
+            self.plan,
+            self.accepted,
+            self.taken,
+            self.flag,
+            rows.len(),
+            work.len(),
+        );
         match checked {
             Checked::Refused(why) => {
                 return Offered::Refused {
@@ -362,7 +238,14 @@ impl Job {
         ensures out { λ _. ⌜ now (out .exit) ≡ takeOut self (now (out .entry)) (now (work .entry)) ⌝ }
         ensures work { λ _. ⌜ now (work .exit) ≡ takeWork self (length (now (out .entry))) (now (work .entry)) ⌝ }
     {
-        let checked = check_take(self, out.len(), work.len());
+        let checked = check_take(
+            self.plan,
+            self.accepted,
+            self.taken,
+            self.flag,
+            out.len(),
+            work.len(),
+        );
         match checked {
             Checked::Refused(why) => {
                 return Taken::Refused {

@@ -18,9 +18,9 @@ use Rattle.rows_schedule.proofs.Needed.{since-le}
 use Rattle.rows.specs.WorkRows.{rowIn}
 use Rattle.rows_laws.proofs.Held.{Held, held-in}
 use Rattle.rows_laws.proofs.WorkRows.{rowIn-length}
-use Rattle.job.specs.declared.Plan.{Plan}
-use Rattle.job.specs.Record.{lanesOf, R}
-use Rattle.job.specs.Calls.{scaleBy, inCrop, valuesOf, rowAccepted, fed}
+use Rattle.job_rules.specs.declared.Plan.{Plan}
+use Rattle.job_rules.specs.Rules.{lanesOf, R}
+use Rattle.job.specs.Calls.{scaleBy, valuesOf, rowAccepted, fed}
 use Rattle.job_claim.proofs.Reading.{cropValue, values-are}
 
 -- what the work rows hold once k source rows were accepted and t rows taken

@@ -17,11 +17,12 @@ use Rattle.pixels_alpha.specs.Alpha.{hasAlpha}
 use Rattle.rows_schedule.specs.Schedule.{used}
 use Rattle.rows_schedule.proofs.Crop.{rows-le, rows-none}
 use Rattle.rows_laws.proofs.Held.{held-start, held-same}
-use Rattle.job.specs.declared.Plan.{Plan}
+use Rattle.job_rules.specs.declared.Plan.{Plan}
+use Rattle.job_rules.specs.Rules.{lanesOf, R, startNumber}
 use Rattle.job.specs.declared.Job.{Job}
-use Rattle.job.specs.Record.{lanesOf, R, Rules, fresh}
+use Rattle.job.specs.Record.{Rules, fresh}
 use Rattle.job.specs.Calls as calls
-use Rattle.job.specs.Calls.{scaleBy, mostRows, count, lentRows, moreAccepted, moreTaken, fed, rowTaken, workTaken, startNumber, startWork, cleared}
+use Rattle.job.specs.Calls.{scaleBy, mostRows, count, lentRows, moreAccepted, moreTaken, fed, rowTaken, workTaken, startWork, cleared}
 use Rattle.job.proofs.Counting.{counted-most, counted-low, counted-some}
 use Rattle.job.proofs.Views.{WholeRows, OfferTurned, OfferWent, offer-view, TakeTurned, TakeWent, take-view, StartWent, start-went}
 use Rattle.job_claim.specs.Rows.{rowOf, joined}

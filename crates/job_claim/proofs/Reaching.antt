@@ -13,9 +13,9 @@ use Rattle.arithmetic.proofs.Quotients.{div-is}
 use Rattle.pixels.specs.Sizes.{pixelLanes, rowBytes, pictureBytes, workValues}
 use Rattle.pixels_crop.specs.Crop.{pictureRow}
 use Rattle.rows_schedule.proofs.Crop.{rows-most, rows-all}
-use Rattle.job.specs.declared.Plan.{Plan}
-use Rattle.job.specs.Record.{lanesOf, R}
-use Rattle.job.specs.Calls.{count, lentRows, startNumber}
+use Rattle.job_rules.specs.declared.Plan.{Plan}
+use Rattle.job_rules.specs.Rules.{lanesOf, R, startNumber}
+use Rattle.job.specs.Calls.{count, lentRows}
 use Rattle.job.proofs.Views
 use Rattle.job.proofs.Views.{WholeRows}
 use Rattle.job_claim.specs.Calls.{Call, Offer, Take, Seen, Run, nothing, step, run, begun, offerNumber, takeNumber, NoneRefused}

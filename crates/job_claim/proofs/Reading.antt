@@ -23,10 +23,10 @@ use Rattle.rows.specs.Column.{value}
 use Rattle.rows.specs.Lanes.{rowValue}
 use Rattle.rows_laws.proofs.Monotone.{value-mono}
 use Rattle.rows_laws.proofs.Columns.{value-word}
-use Rattle.job.specs.declared.Plan.{Plan}
+use Rattle.job_rules.specs.declared.Plan.{Plan}
+use Rattle.job_rules.specs.Rules.{lanesOf}
 use Rattle.job.specs.Calls.{valuesOf}
 use Rattle.job_claim.specs.Rows.{sourceByte, mattedByte}
-use Rattle.job.specs.Record.{lanesOf}
 
 -- the value of crop row c at place x of a half
 unfoldable pub cropValue : Plan → (ℕ → ℕ) → ℕ → ℕ → ℕ

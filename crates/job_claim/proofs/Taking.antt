@@ -26,12 +26,13 @@ use Rattle.rows_laws.proofs.Held.{held-byte, held-out}
 use Rattle.rows_laws.proofs.WorkRows.{rowLeft-length}
 use Rattle.rows_laws.proofs.Distance.{distance}
 use Rattle.rows_laws.proofs.Taken.{takenPixel, Matted, matte-matted, taken-alpha, taken-opaque}
-use Rattle.job.specs.declared.Plan.{Plan}
+use Rattle.job_rules.specs.declared.Plan.{Plan}
+use Rattle.job_rules.specs.Rules.{lanesOf, R}
 use Rattle.job.specs.declared.Job.{Job}
-use Rattle.job.specs.Record.{lanesOf, R, Rules}
+use Rattle.job.specs.Record.{Rules}
 use Rattle.job.specs.Calls.{scaleBy, usedBy, rowTaken, workTaken}
 use Rattle.job_claim.specs.Rows.{sourceByte, mattedByte, scaledLane, rowOf}
-use Rattle.job.proofs.Restoring.{restored-cong}
+use Rattle.pixels_layout.proofs.Matted.{restored-cong}
 use Rattle.job_claim.proofs.Reading.{cropValue, cropValue-word, matted-small}
 use Rattle.job_claim.proofs.Feeding.{Holds}
 

@@ -19,10 +19,10 @@ use Rattle.pixels_alpha.specs.Alpha.{hasAlpha}
 use Rattle.pixels_crop.specs.Crop.{cropped}
 use Rattle.rows_schedule.proofs.Crop.{rows-all, rows-most}
 use Rattle.rows.specs.Mean.{exactSum, total, Near, Premise}
-use Rattle.job.specs.declared.Plan.{Plan}
+use Rattle.job_rules.specs.declared.Plan.{Plan}
+use Rattle.job_rules.specs.Rules.{lanesOf, R, startNumber}
 use Rattle.job.specs.declared.Job.{Job}
-use Rattle.job.specs.Record.{lanesOf, R}
-use Rattle.job.specs.Calls.{mostRows, count, lentRows, startNumber}
+use Rattle.job.specs.Calls.{mostRows, count, lentRows}
 use Rattle.job.proofs.Counting.{counted-stop}
 use Rattle.job.proofs.Views
 use Rattle.job.proofs.Views.{WholeRows, TakeWent, OfferWent}

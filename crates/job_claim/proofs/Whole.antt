@@ -27,12 +27,12 @@ use Rattle.rows_schedule.proofs.Needed.{needed-le}
 use Rattle.rows.specs.Column.{value}
 use Rattle.rows.specs.Closed.{scaled}
 use Rattle.rows_laws.proofs.Reach.{scaledByte-same}
-use Rattle.job.specs.declared.Plan.{Plan}
-use Rattle.job.specs.Record.{lanesOf, R}
+use Rattle.job_rules.specs.declared.Plan.{Plan}
+use Rattle.job_rules.specs.Rules.{lanesOf, R}
 use Rattle.job_claim.specs.Rows.{sourceByte, mattedByte, scaledLane, rowOf, joined, rowsOf, resizePlan, resized, resizedFlag}
 use Rattle.job_claim.specs.Calls.{Run}
 use Rattle.arithmetic.proofs.Mattes.{pixel-cong}
-use Rattle.job.proofs.Restoring.{restored-cong}
+use Rattle.pixels_layout.proofs.Matted.{restored-cong}
 use Rattle.pixels_crop.proofs.Windows.{window-byte, window-length}
 use Rattle.job_claim.proofs.Reading.{value-cong}
 use Rattle.job_claim.proofs.Feeding.{row-length, row-byte}

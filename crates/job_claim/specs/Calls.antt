@@ -7,9 +7,10 @@ use mathlib.Core.Path.{_≡_}
 use lib.Dec.{eqb}
 use lib.ListN.{length, take, drop}
 use Rattle.pixels.specs.Sizes.{rowBytes}
-use Rattle.job.specs.declared.Plan.{Plan}
+use Rattle.job_rules.specs.declared.Plan.{Plan}
+use Rattle.job_rules.specs.Rules.{lanesOf}
 use Rattle.job.specs.declared.Job.{Job}
-use Rattle.job.specs.Record.{lanesOf, fresh}
+use Rattle.job.specs.Record.{fresh}
 use Rattle.job.specs.Calls as job
 
 -- An offer with its bytes, or a take with its output buffer; and how many of the work values are lent, all of them or a beginning. Bytes are numbers below

@@ -9,9 +9,8 @@ use Rattle.pixels_layout.specs.Layout.{placeOf, alphaLane}
 use Rattle.pixels_alpha.specs.Alpha.{hasAlpha}
 use Rattle.pixels_crop.specs.Crop.{cropped}
 use Rattle.rows.specs.Mean.{exactSum, total, Near, Premise}
-use Rattle.job.specs.declared.Plan.{Plan}
-use Rattle.job.specs.Record.{lanesOf, R}
-use Rattle.job.specs.Calls.{startNumber}
+use Rattle.job_rules.specs.declared.Plan.{Plan}
+use Rattle.job_rules.specs.Rules.{lanesOf, R, startNumber}
 use Rattle.job_claim.specs.Rows.{mattedByte, rowOf, joined, resized, resizedFlag}
 use Rattle.job_claim.specs.Calls.{Call, Offer, Take, Run, step, run, begun, offerNumber, offerRows, takeNumber, NoneRefused}
 

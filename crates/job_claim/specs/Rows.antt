@@ -14,8 +14,8 @@ use Rattle.pixels_layout.specs.Layout.{placeOf}
 use Rattle.pixels_layout.specs.Lanes.{restoredPlace}
 use Rattle.pixels_alpha.specs.Alpha.{hasAlpha}
 use Rattle.rows.specs.Closed.{scaled}
-use Rattle.job.specs.declared.Plan.{Plan}
-use Rattle.job.specs.Record.{lanesOf, planOf}
+use Rattle.job_rules.specs.declared.Plan.{Plan}
+use Rattle.job_rules.specs.Rules.{lanesOf, planOf}
 
 -- lane k of crop row c, pixel i, as it stands in the source: "rows and columns counted from the crop's corner"
 abbrev pub sourceByte : Plan → (ℕ → ℕ) → ℕ → ℕ → ℕ → ℕ

@@ -18,13 +18,14 @@ use Rattle.pixels.proofs.Numbers.{number-pos, not-zero}
 use Rattle.pixels.proofs.Truths.{same-of}
 use Rattle.pixels.proofs.Causes.{first-none, none-applies}
 use Rattle.pixels.proofs.Fitting.{fits-of}
-use Rattle.job.specs.declared.Plan.{Plan}
+use Rattle.job_rules.specs.declared.Plan.{Plan}
+use Rattle.job_rules.specs.Rules.{planOf, startCauses, startNumber}
 use Rattle.job.specs.declared.Job.{Job}
 use Rattle.job.specs.declared.Started.{Started}
 use Rattle.job.specs.declared.Started.the-variants as started
 use Rattle.job.specs.Answers.{startedNumber, startedJob}
-use Rattle.job.specs.Record.{planOf, fresh}
-use Rattle.job.specs.Calls.{startCauses, startNumber, startWork, cleared}
+use Rattle.job.specs.Record.{fresh}
+use Rattle.job.specs.Calls.{startWork, cleared}
 use Rattle.job_claim.specs.Rows.{fullCrop, resizePlan, resized, resizedFlag}
 use Rattle.job_resize.specs.Resize.{resizeCauses, resizeNumber, resizeFlag, resizeOut, resizeWork, lastFirst, lastSecond, resizedWork}
 use Rattle.job_resize.specs.Inner.{Asked, Driven}

@@ -30,9 +30,10 @@ use Rattle.rows.specs.WorkRows.{halfOf}
 use Rattle.rows.specs.Closed.{newest, shareBefore, firstHalf}
 use Rattle.rows_laws.proofs.Held.{Held, share-none}
 use Rattle.rows_laws.proofs.WorkRows.{parity, half-even, half-odd}
-use Rattle.job.specs.declared.Plan.{Plan}
+use Rattle.job_rules.specs.declared.Plan.{Plan}
+use Rattle.job_rules.specs.Rules.{lanesOf, R}
 use Rattle.job.specs.declared.Job.{Job}
-use Rattle.job.specs.Record.{lanesOf, R, Rules}
+use Rattle.job.specs.Record.{Rules}
 use Rattle.job_claim.specs.Rows.{rowsOf, resizePlan, resized, resizedFlag}
 use Rattle.job_claim.proofs.Reading.{cropValue}
 use Rattle.job_resize.specs.Resize.{rowValueAt, lastFirst, lastSecond, resizedWork}

@@ -19,9 +19,10 @@ use Rattle.rows_schedule.proofs.Crop.{rows-all, rows-most, rows-none, Place, wi
 use Rattle.rows.specs.WorkRows.{rowIn}
 use Rattle.rows_laws.proofs.Held.{held-start}
 use Rattle.rows_laws.proofs.WorkRows.{rowIn-rest, rowLeft-rest}
-use Rattle.job.specs.declared.Plan.{Plan}
+use Rattle.job_rules.specs.declared.Plan.{Plan}
+use Rattle.job_rules.specs.Rules.{lanesOf, R}
 use Rattle.job.specs.declared.Job.{Job}
-use Rattle.job.specs.Record.{lanesOf, R, Rules, fresh}
+use Rattle.job.specs.Record.{Rules, fresh}
 use Rattle.job.specs.Calls.{scaleBy, count, cleared, rowAccepted, valuesOf, fed, offerNumber, offerJob, offerWork, moreAccepted, takeNumber, takeJob, takeOut, takeWork, moreTaken, rowTaken, workTaken}
 use Rattle.job.proofs.Views.{WholeRows, OfferWent, offer-went, offer-goes, TakeWent, take-went, take-goes}
 use Rattle.job_claim.specs.Rows.{rowOf, rowsOf}

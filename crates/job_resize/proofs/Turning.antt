@@ -15,11 +15,12 @@ use Rattle.arithmetic.proofs.Orders.{le-or-lt}
 use Rattle.arithmetic.proofs.Quotients.{div-is}
 use Rattle.pixels.specs.Sizes.{rowBytes, workValues, pictureBytes}
 use Rattle.rows_schedule.proofs.Crop.{rows-all, rows-most}
-use Rattle.job.specs.declared.Plan.{Plan}
+use Rattle.job_rules.specs.declared.Plan.{Plan}
+use Rattle.job_rules.specs.Rules.{lanesOf, R}
 use Rattle.job.specs.declared.Job.{Job}
-use Rattle.job.specs.Record.{lanesOf, R, Rules, fresh, lawful, readyOf}
+use Rattle.job.specs.Record.{Rules, fresh, lawful, readyOf}
 use Rattle.job.specs.Calls.{mostRows, count, lentRows, cleared, offerJob, offerWork, takeJob, takeOut, takeWork, moreTaken, rowTaken}
-use Rattle.job.proofs.Rules.{rules-good}
+use Rattle.job_rules.proofs.Rules.{rules-good}
 use Rattle.job.proofs.Views.{take-went}
 use Rattle.job.proofs.Counting.{counted-stop}
 use Rattle.job_claim.proofs.Invariant.{count-most}
@@ -36,11 +37,11 @@ asked-going j pixels out work a =
 -- ---- what is ready
 ready-none : (j : Job) → Rules j → R (j .plan) (j .accepted) ≤ j .taken → eqb (readyOf j) 0 ≡ true
 unfolding readyOf
-ready-none j rules quiet = simp (rules-good j rules) (eq-eqb (R (j .plan) (j .accepted) - j .taken) 0 (omega arith))
+ready-none j rules quiet = simp (rules-good (j .plan) (j .accepted) (j .taken) (j .flag) rules) (eq-eqb (R (j .plan) (j .accepted) - j .taken) 0 (omega arith))
 
 ready-some : (j : Job) → Rules j → j .taken < R (j .plan) (j .accepted) → eqb (readyOf j) 0 ≡ false
 unfolding readyOf
-ready-some j rules ready = simp (rules-good j rules) (ne-eqb (R (j .plan) (j .accepted) - j .taken) 0 (λ e. omega arith))
+ready-some j rules ready = simp (rules-good (j .plan) (j .accepted) (j .taken) (j .flag) rules) (ne-eqb (R (j .plan) (j .accepted) - j .taken) 0 (λ e. omega arith))
 
 module _ (p : Plan) (pixels out₀ work₀ : List ℕ) (j : Job) (out work : List ℕ) (g : Going p pixels out₀ work₀ j out work) where
   -- ---- lengths, for the parts that are lent

@@ -8,9 +8,10 @@ use lib.ListN.{length, getD, take, drop}
 use Rattle.arithmetic.specs.Table.{tabulate}
 use Rattle.pixels.specs.Sizes.{pixelLanes, rowBytes, halfValues, workValues, pictureBytes, Fits}
 use Rattle.pixels_alpha.specs.Alpha.{hasAlpha}
-use Rattle.job.specs.declared.Plan.{Plan}
+use Rattle.job_rules.specs.declared.Plan.{Plan}
+use Rattle.job_rules.specs.Rules.{lanesOf}
 use Rattle.job.specs.declared.Job.{Job}
-use Rattle.job.specs.Record.{lanesOf, fresh, readyOf}
+use Rattle.job.specs.Record.{fresh, readyOf}
 use Rattle.job.specs.Calls.{cleared, offerJob, offerWork, takeOut}
 use Rattle.job_claim.specs.Rows.{rowsOf}
 use Rattle.job_resize.specs.Resize.{lastFirst, lastSecond}

@@ -14,7 +14,7 @@ use Rattle.pixels.specs.Sizes.{pixelLanes, halfValues, workValues, pictureBytes
 use Rattle.rows.specs.Column.{value}
 use Rattle.rows.specs.WorkRows.{halfOf}
 use Rattle.rows.specs.Closed.{newest}
-use Rattle.job.specs.declared.Plan.{Plan}
+use Rattle.job_rules.specs.declared.Plan.{Plan}
 use Rattle.job_claim.specs.Rows.{fullCrop, mattedByte, resizePlan, resized, resizedFlag}
 
 -- 1, 3, 4, 5 ascending, of n bytes of pixels, m of output and w work values

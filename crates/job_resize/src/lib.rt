@@ -10,19 +10,19 @@ use pixels::Flagged;
 use pixels::PIXEL_LANES;
 use pixels::Rect;
 use pixels::Refusal;
-use pixels::check_sizes;
-use pixels::wrong_length;
 use pixels_layout::PixelLayout;
+use pixels_sizes::check_sizes;
+use pixels_sizes::wrong_length;
 ghost use mathlib.Core.Path.{_≡_};
 ghost use Prim.Native.Nat.{_+_, _*_, _≤_};
 ghost use lib.ListN.{length, take, drop};
 ghost use Rattle.pixels.specs.Refusals.{checkedNumber, flaggedNumber, flaggedFlag};
 ghost use Rattle.pixels.specs.Sizes.{rowBytes};
+ghost use Rattle.job_rules.specs.Rules.{lanesOf};
 ghost use Rattle.job.specs.Answers.{offeredJob, takenJob};
 ghost use Rattle.job.specs.Calls.{takeJob, takeWork};
 ghost use Rattle.job_resize.specs.Resize.{resizeNumber, resizeFlag, resizeOut, resizeWork};
 ghost use Rattle.job_resize.specs.Inner.{emittedOut, Asked, Driven, fedJob, fedWork};
-ghost use Rattle.job.specs.Record.{lanesOf};
 
 // The next record of an answer, whichever it is.
 fn after_offer(answer: Offered) -> Job

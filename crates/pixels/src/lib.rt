@@ -2,8 +2,6 @@
 // geometry.rs). Every function answers for all arguments. Fields are public: a value counts, whoever filled it, and is tested where it is used.
 pub use sizes::bad_side;
 pub use sizes::bad_size;
-pub use sizes::check_sizes;
-pub use sizes::wrong_length;
 
 mod sizes;
 mod table;

@@ -1,17 +1,13 @@
 // Sizes (document 01, "Beside the job" and numbers 1 and 2 of "Why a call is turned away"; the Rust: Dimensions and Rect).
-use crate::Checked;
 use crate::Dimensions;
 use crate::MAX_DIMENSION;
-use crate::PIXEL_LANES;
 use crate::Rect;
 use crate::Refusal;
 use crate::Sized;
 ghost use mathlib.Core.Path.{_≡_};
-ghost use mathlib.Core.Bool.{not};
 ghost use Prim.Native.Nat.{_*_, _^_, _≤_};
-ghost use lib.Dec.{eqb};
-ghost use Rattle.pixels.specs.Refusals.{checkedNumber, sizedNumber, sizedSize, sizeIf};
-ghost use Rattle.pixels.specs.Sizes.{maxSide, pixelLanes, pictureBytes, badSide, badSize, sizeOf, rectOf, sizeNumber, sizesNumber, derivedSide, scaledNumber, scaledSize};
+ghost use Rattle.pixels.specs.Refusals.{sizedNumber, sizedSize, sizeIf};
+ghost use Rattle.pixels.specs.Sizes.{maxSide, badSide, badSize, sizeOf, rectOf, sizeNumber, derivedSide, scaledNumber, scaledSize};
 
 // A side is 0 or above the limit. Rules out: a side of twice the limit passed; a side of 16,384 refused.
 pub fn bad_side(side: u64) -> bool
@@ -33,16 +29,6 @@ pub fn bad_size(size: Dimensions) -> bool
     bad_side(size.height as u64)
 }
 
-// Another number of bytes than those of a picture of the size. Rules out: three bytes to a pixel; a product that wraps.
-pub fn wrong_length(n: usize, size: Dimensions) -> bool
-    ensures { λ r. ⌜ r ≡ not (eqb n (pictureBytes pixelLanes (size .width) (size .height))) ⌝ }
-{
-    if n % PIXEL_LANES != 0 {
-        return true;
-    }
-    (n / PIXEL_LANES) as u64 != size.pixel_count()
-}
-
 // A side of a scaled size: as asked, or derived from the other side where it is 0.
 fn derived(own: u32, across: u32, side: u32, other: u64) -> u64
     requires { ⌜ (own ≤ maxSide) × (1 ≤ across) × (across ≤ maxSide) × (other ≤ 2 ^ 47) ⌝ }
@@ -52,32 +38,6 @@ fn derived(own: u32, across: u32, side: u32, other: u64) -> u64
         return (own as u64 * other + (across as u64 - 1)) / across as u64;
     }
     side as u64
-}
-
-// Numbers 1 and 2 of a source, its crop and a target: crop, start, resize and the record rules all ask here.
-// Rules out: a right edge summed with wrapping; a crop that is empty and lies outside told 2.
-pub fn check_sizes(source: Dimensions, crop: Rect, target: Dimensions) -> Checked
-    ensures { λ r. ⌜ checkedNumber r ≡ sizesNumber source crop target ⌝ }
-{
-    if bad_size(source) {
-        return Checked::Refused(Refusal::InvalidDimensions);
-    }
-    if bad_size(target) {
-        return Checked::Refused(Refusal::InvalidDimensions);
-    }
-    if crop.width == 0 {
-        return Checked::Refused(Refusal::InvalidDimensions);
-    }
-    if crop.height == 0 {
-        return Checked::Refused(Refusal::InvalidDimensions);
-    }
-    if (source.width as u64) < crop.x as u64 + crop.width as u64 {
-        return Checked::Refused(Refusal::CropOutOfBounds);
-    }
-    if (source.height as u64) < crop.y as u64 + crop.height as u64 {
-        return Checked::Refused(Refusal::CropOutOfBounds);
-    }
-    Checked::Fit
 }
 
 impl Dimensions {

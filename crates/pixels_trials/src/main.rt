@@ -6,6 +6,7 @@ use pixels::Flagged;
 use pixels::Rect;
 use pixels::Sized;
 use pixels_layout::PixelLayout;
+use pixels_sizes::check_sizes;
 
 fn main() {
     sizes();
@@ -64,7 +65,7 @@ fn crop_checked(crop: Rect, target_width: u32) {
         width: target_width,
         height: 2,
     };
-    checked(pixels::check_sizes(source, crop, target));
+    checked(check_sizes(source, crop, target));
 }
 
 // ---- layouts

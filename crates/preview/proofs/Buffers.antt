@@ -4,13 +4,13 @@ use mathlib.Core.Path.{_≡_, sym, _∙_, ap}
 use native.Mathlib.Omega.{arith}
 use lib.ListN.{replicate, length-replicate}
 use Rattle.pixels.specs.Sizes.{rowBytes}
-use Rattle.job.specs.declared.Plan.{Plan}
+use Rattle.job_rules.specs.declared.Plan.{Plan}
+use Rattle.job_rules.specs.Rules.{lanesOf, startNumber}
 use Rattle.job.specs.declared.Job.{Job}
 use Rattle.job.specs.declared.Started.{Started}
 use Rattle.job.specs.declared.Started.the-variants as started
 use Rattle.job.specs.Answers.{startedNumber, startedJob}
-use Rattle.job.specs.Record.{lanesOf, fresh}
-use Rattle.job.specs.Calls.{startNumber}
+use Rattle.job.specs.Record.{fresh}
 use Rattle.job.proofs.Views.{start-went}
 
 pub record RowsFit (j : Job) : Type 0 where

@@ -19,7 +19,7 @@ use preview_decimal::number;
 ghost use Prim.Native.Nat.{_≤_};
 ghost use lib.ListN.{length};
 ghost use Rattle.pixels.specs.Sizes.{rowBytes};
-ghost use Rattle.job.specs.Record.{lanesOf};
+ghost use Rattle.job_rules.specs.Rules.{lanesOf};
 
 fn say(line: &[u8]) {
     io::write_all(STDERR_FILENO, line);

@@ -5,20 +5,21 @@ use arithmetic::mult_fix;
 use arithmetic::wrapping_mul;
 use pixels::Checked;
 use pixels::PIXEL_LANES;
-use pixels::Refusal;
-use pixels::bad_side;
 use pixels_layout::PixelLayout;
 use pixels_layout::Places;
+use rows_tests::check_import;
 use std::num::wrapping_add_u32;
 use std::num::wrapping_sub_u32;
 ghost use mathlib.Core.Path.{_≡_};
-ghost use Prim.Native.Nat.{ℕ, _+_, _*_, _/_, _≤_, _<_};
+ghost use Prim.Native.Nat.{_+_, _*_, _/_, _≤_, _<_};
 ghost use lib.ListN.{length};
+ghost use Rattle.arithmetic.specs.Matte.{scaleColour, matteFactor};
 ghost use Rattle.arithmetic.specs.Word.{wrapAdd, wrapMul};
 ghost use Rattle.pixels.specs.Sizes.{maxSide, pixelLanes};
 ghost use Rattle.pixels.specs.Refusals.{checkedNumber};
-ghost use Rattle.rows.specs.Import.{importNumber, importHalf};
-ghost use Rattle.rows.specs.Inner.Import.{at, Four, stored, laneBytes, mattedAt, PixelAsks, Within, InLanes, GatherAsks, Gathers, Finished, ColumnAsks, Columns, writtenRow, RowAsks, Second, AdvanceAsks, Advances};
+ghost use Rattle.rows_tests.specs.Tests.{importNumber};
+ghost use Rattle.rows.specs.Import.{importHalf};
+ghost use Rattle.rows.specs.Inner.Import.{at, Four, stored, laneBytes, byteAt, mattedAt, PixelAsks, Within, InLanes, GatherAsks, Gathers, Finished, ColumnAsks, Columns, writtenRow, RowAsks, AdvanceAsks, Advances};
 
 // A number for each lane, or for each byte of a pixel.
 struct Quad {
@@ -50,6 +51,15 @@ fn add4(x: Quad, y: Quad) -> Quad
     }
 }
 
+// Byte k of pixel x times an alpha.
+fn matted(row: &[u8], x: usize, k: usize, alpha: u8) -> u32
+    requires { ⌜ PixelAsks (now row) x ⌝ }
+    requires { ⌜ k < pixelLanes ⌝ }
+    ensures { λ r. ⌜ r ≡ scaleColour (byteAt (now (row .entry)) k x) (matteFactor alpha) ⌝ }
+{
+    matte(row[PIXEL_LANES * x + k], alpha)
+}
+
 // The four bytes of pixel x, in their order, each times the alpha at `pa`: like work on like bytes makes one vector of them.
 // What stands at `pa` itself is a product that nobody reads.
 fn read_matted(row: &[u8], x: usize, pa: usize) -> Quad
@@ -57,13 +67,12 @@ fn read_matted(row: &[u8], x: usize, pa: usize) -> Quad
     requires { ⌜ pa < pixelLanes ⌝ }
     ensures { λ r. ⌜ Four (λ k. at r k ≡ mattedAt (now (row .entry)) pa k x) ⌝ }
 {
-    let i = PIXEL_LANES * x;
-    let alpha = row[i + pa];
+    let alpha = row[PIXEL_LANES * x + pa];
     Quad {
-        a: matte(row[i], alpha),
-        b: matte(row[i + 1], alpha),
-        c: matte(row[i + 2], alpha),
-        d: matte(row[i + 3], alpha),
+        a: matted(row, x, 0, alpha),
+        b: matted(row, x, 1, alpha),
+        c: matted(row, x, 2, alpha),
+        d: matted(row, x, 3, alpha),
     }
 }
 
@@ -73,16 +82,11 @@ fn read_lanes(row: &[u8], x: usize, p: Places) -> Quad
     requires { ⌜ Within p ⌝ }
     ensures { λ r. ⌜ Four (λ k. at r k ≡ laneBytes p (now (row .entry)) k x) ⌝ }
 {
-    let i = PIXEL_LANES * x;
-    let b = i + p.b;
-    let g = i + p.g;
-    let r = i + p.r;
-    let a = i + p.a;
-    let alpha = row[a];
+    let alpha = row[PIXEL_LANES * x + p.a];
     Quad {
-        a: matte(row[b], alpha),
-        b: matte(row[g], alpha),
-        c: matte(row[r], alpha),
+        a: matted(row, x, p.b, alpha),
+        b: matted(row, x, p.g, alpha),
+        c: matted(row, x, p.r, alpha),
         d: alpha as u32,
     }
 }
@@ -272,17 +276,6 @@ fn blend4(s: Stand, rest: u32) -> Quad
     }
 }
 
-// The pixel to the right of the first; of one pixel, itself: no pixel past the crop is read. The Rust: `right` of Rescaler::import_row_expand.
-fn second(n: usize) -> usize
-    requires { ⌜ 0 < n ⌝ }
-    ensures { λ r. ⌜ Second n r ⌝ }
-{
-    if n > 1 {
-        return 1;
-    }
-    0
-}
-
 // One column on: by `step` of the parts, into the next pixel where the left one has fewer.
 fn advance(row: &[u8], span: u32, step: u32, mut s: Stand, p: Places) -> Stand
     requires { ⌜ AdvanceAsks (now row) (length (now row) / pixelLanes) span step (s .left) (s .right) (s .x) (s .acc) p ⌝ }
@@ -312,8 +305,8 @@ fn grow_row(row: &[u8], n: usize, m: usize, p: Places, half: &mut [u32])
     let span = (m - 1) as u32;
     let step = (n - 1) as u32;
     let left = read_lanes(row, 0, p);
-    let beside = second(n);
-    let right = read_lanes(row, beside, p);
+    // The second pixel; of one pixel, itself: no pixel past the crop is read. The Rust: `right` of Rescaler::import_row_expand.
+    let right = read_lanes(row, 1 % n, p);
     let mut s = Stand {
         left,
         right,
@@ -327,25 +320,6 @@ fn grow_row(row: &[u8], n: usize, m: usize, p: Places, half: &mut [u32])
         put4(half, j, v);
         j += 1;
     }
-}
-
-// The tests, in the order of document 01's table.
-fn check_import(crop_width: u32, target_width: u32, bytes: usize, room: usize) -> Checked
-    ensures { λ r. ⌜ checkedNumber r ≡ importNumber «crop_width» «target_width» bytes room ⌝ }
-{
-    if bad_side(crop_width as u64) {
-        return Checked::Refused(Refusal::InvalidDimensions);
-    }
-    if bad_side(target_width as u64) {
-        return Checked::Refused(Refusal::InvalidDimensions);
-    }
-    if bytes != PIXEL_LANES * crop_width as usize {
-        return Checked::Refused(Refusal::PixelBufferMismatch);
-    }
-    if room < PIXEL_LANES * target_width as usize {
-        return Checked::Refused(Refusal::WorkLength);
-    }
-    Checked::Fit
 }
 
 // One row of the crop, matted as it is read, into a half. A row as wide as the target goes the same way: matting changes it.
@@ -363,17 +337,17 @@ pub fn import_row(
 {
     let checked = check_import(crop_width, target_width, row.len(), half.len());
     match checked {
-        Checked::Refused(why) => Checked::Refused(why),
+        Checked::Refused(_) => {}
         Checked::Fit => {
             let n = crop_width as usize;
             let m = target_width as usize;
             let p = layout.places();
             if m <= n {
                 shrink_row(row, n, m, p, half);
-                return Checked::Fit;
+            } else {
+                grow_row(row, n, m, p, half);
             }
-            grow_row(row, n, m, p, half);
-            Checked::Fit
         }
     }
+    checked
 }

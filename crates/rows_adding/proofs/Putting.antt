@@ -18,8 +18,10 @@ use Rattle.pixels.proofs.Truths.{test, same, same-of}
 use Rattle.pixels.proofs.Causes.{first-none, none-applies}
 use Rattle.pixels.proofs.Fitting.{size-of}
 use Rattle.rows.specs.WorkRows.{scaleOf, written, added, rowIn}
-use Rattle.rows.specs.Import.{importNumber, importHalf}
-use Rattle.rows.proofs.Importing.{import-fits, import-written}
+use Rattle.rows_tests.specs.Tests.{importNumber}
+use Rattle.rows_tests.proofs.Passing.{import-fits}
+use Rattle.rows.specs.Import.{importHalf}
+use Rattle.rows.proofs.Importing.{import-written}
 use Rattle.rows_adding.specs.Adding.{addWork}
 use Rattle.rows_adding.specs.Put.{putCauses, putNumber, putValue, putWork}
 use Rattle.rows_adding.specs.Inner.{halfFor}

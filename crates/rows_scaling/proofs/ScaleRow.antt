@@ -1,53 +1,23 @@
--- A call of scale_row: number 0 exactly if every test passes, what the row is then asked, and the buffers with each number. Assumes nothing.
-use Prim.Native.Nat.{ℕ, _≤_}
+-- A call of scale_row: what a row that passes its tests is asked, and the buffers with each number. Assumes nothing.
+use Prim.Native.Nat.{ℕ}
 use mathlib.Core.Path.{_≡_, sym, _∙_}
-use mathlib.Core.Bool.{Bool, true, false}
 use mathlib.Core.List.{List}
 use native.Mathlib.Omega.{arith}
 use lib.ListN.{length}
-use borrow.Author.Tests.{le-ltb, ltb-false}
 use Rattle.arithmetic.specs.Table.{tabulate}
 use Rattle.arithmetic.specs.Weight.{span}
 use Rattle.pixels.specs.declared.Dimensions.{Dimensions}
 use Rattle.pixels.specs.declared.Refusal.{Refusal}
 use Rattle.pixels.specs.Refusals.{number}
-use Rattle.pixels.specs.Sizes.{pixelLanes, badSize, rowBytes, halfValues, workValues}
-use Rattle.pixels.proofs.Truths.{not-false, same, same-of}
-use Rattle.pixels.proofs.Causes.{first-none, none-applies}
-use Rattle.pixels.proofs.Numbers.{buffer-refused, buffer-written}
+use Rattle.pixels.specs.Sizes.{pixelLanes, halfValues}
+use Rattle.pixels.proofs.Numbers.{buffer-refused}
 use Rattle.pixels.proofs.Fitting.{size-of}
 use Rattle.rows.specs.WorkRows.{Scale, scaleOf, byteOut, rowLeft}
-use Rattle.rows_due.specs.Due.{due}
-use Rattle.rows_scaling.specs.Scaling.{scaleCauses, scaleNumber, scaledOut, scaledWork}
+use Rattle.rows_tests.specs.Tests.{scaleNumber}
+use Rattle.rows_tests.proofs.Passing.{Passed, passed-of}
+use Rattle.rows_scaling.specs.Scaling.{scaledOut, scaledWork}
 use Rattle.rows_scaling.specs.Inner.Scaling.{RowAsks, RoomAsks}
 use Rattle.rows_scaling.proofs.Factors.{span-some}
-
--- every test passes
-pub record Passed (crop target : Dimensions) (u y outBytes workCount : ℕ) : Type 0 where
-  pub crop-fits : badSize crop ≡ false
-  pub target-fits : badSize target ≡ false
-  pub out-exact : outBytes ≡ rowBytes pixelLanes (target .width)
-  pub work-enough : workValues pixelLanes (target .width) ≤ workCount
-  pub ready : due (crop .height) (target .height) u y ≡ true
-
-module _ (crop target : Dimensions) (u y outBytes workCount : ℕ) where
-  pub scale-passes : Passed crop target u y outBytes workCount → scaleNumber crop target u y outBytes workCount ≡ 0
-  unfolding scaleNumber
-  scale-passes p =
-      first-none (scaleCauses crop target u y outBytes workCount)
-      (p .crop-fits, (p .target-fits, (same _ _ (p .out-exact), (le-ltb _ _ (p .work-enough), (simp (p .ready), tt)))))
-
-  pub passed-of : scaleNumber crop target u y outBytes workCount ≡ 0 → Passed crop target u y outBytes workCount
-  unfolding scaleNumber
-  passed-of e =
-      let p = none-applies (scaleCauses crop target u y outBytes workCount) e in
-      record {
-        crop-fits = p .0;
-        target-fits = p .1 .0;
-        out-exact = same-of _ _ (p .1 .1 .0);
-        work-enough = ltb-false _ _ (p .1 .1 .1 .0);
-        ready = not-false _ (p .1 .1 .1 .1 .0);
-      }
 
 module _ (crop target : Dimensions) (u y : ℕ) (out work : List ℕ) where
   abbrev result : ℕ

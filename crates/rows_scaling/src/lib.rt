@@ -7,9 +7,7 @@ use arithmetic::wrapping_mul;
 use pixels::Checked;
 use pixels::Dimensions;
 use pixels::PIXEL_LANES;
-use pixels::Refusal;
-use pixels::bad_size;
-use rows_due::due;
+use rows_tests::check_scale;
 use std::num::wrapping_sub_u32;
 ghost use mathlib.Core.Path.{_≡_};
 ghost use mathlib.Core.List.{_++_};
@@ -23,7 +21,8 @@ ghost use Rattle.arithmetic.specs.Weight as weight;
 ghost use Rattle.pixels.specs.Refusals.{checkedNumber};
 ghost use Rattle.rows.specs.Output.{clamp, restDown, ratio, mixed};
 ghost use Rattle.rows.specs.WorkRows.{halfOf, byteOut, rowLeft};
-ghost use Rattle.rows_scaling.specs.Scaling.{scaleNumber, scaledOut, scaledWork};
+ghost use Rattle.rows_tests.specs.Tests.{scaleNumber};
+ghost use Rattle.rows_scaling.specs.Scaling.{scaledOut, scaledWork};
 ghost use Rattle.rows_scaling.specs.Inner.Scaling.{scaleIn, RowAsks, RoomAsks, GrowAsks, Halved, shrinkLeft, shrinkByte, lowByte, growByte};
 
 // What rows are scaled by: document 01's span, crop height h and target height g, and w, the values of a half.
@@ -231,37 +230,6 @@ fn make_row(s: RowScale, used: u32, row: u32, out: &mut [u8], work: &mut [u32])
         return;
     }
     grow_row(s, used, row, out, work);
-}
-
-// The tests, in the order of their numbers, of an output of `out` bytes and `work` work values.
-fn check_scale(
-    crop: Dimensions,
-    target: Dimensions,
-    used: u32,
-    row: u32,
-    out: usize,
-    work: usize,
-) -> Checked
-    ensures { λ r. ⌜ checkedNumber r ≡ scaleNumber crop target used row out work ⌝ }
-{
-    if bad_size(crop) {
-        return Checked::Refused(Refusal::InvalidDimensions);
-    }
-    if bad_size(target) {
-        return Checked::Refused(Refusal::InvalidDimensions);
-    }
-    let w = PIXEL_LANES * target.width as usize;
-    let both = 2 * w;
-    if out != w {
-        return Checked::Refused(Refusal::OutputLength);
-    }
-    if work < both {
-        return Checked::Refused(Refusal::WorkLength);
-    }
-    if !due(crop.height, target.height, used, row) {
-        return Checked::Refused(Refusal::NoneReady);
-    }
-    Checked::Fit
 }
 
 // Makes output row `row` (document 01's Y) of a crop of which `used` rows came in, as lanes B, G, R, A that are not restored yet.

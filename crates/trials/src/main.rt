@@ -2,9 +2,9 @@
 // what document 01 says: numbers in hexadecimal; pixels too, byte after byte; a size as width and height.
 use job::Job;
 use job::Offered;
-use job::Plan;
 use job::Started;
 use job::Taken;
+use job_rules::Plan;
 use pixels::Dimensions;
 use pixels::PIXEL_LANES;
 use pixels::Rect;

@@ -2,18 +2,12 @@
 use mathlib.Core.Bool.{Bool, _||_}
 use mathlib.Core.Path.{ap, _∙_}
 use borrow.Author.Needs.{needs}
-use Rattle.job.proofs.RowOut.{row-out, flag-out, work-is}
+use Rattle.job.proofs.RowOut.{row-out, flag-out, work-out}
 use Rattle.job.proofs.row_out.Statement.{statement}
 use Rattle.job.proofs.row_out.Tie as tie
 
-used-rows-requires : tie.Need-used-rows-requires
-used-rows-requires c κs = search needs
-
-scale-row-requires : tie.Need-scale-row-requires
-scale-row-requires c κs = search needs
-
-restore-row-requires : tie.Need-restore-row-requires
-restore-row-requires c κs = search needs
+take-row-requires : tie.Need-take-row-requires
+take-row-requires c κs = search needs
 
 flag-after-requires : tie.Need-flag-after-requires
 flag-after-requires c κs = search needs
@@ -26,24 +20,13 @@ same-length-2 c = search needs
 
 returns : tie.Need-returns
 returns c =
-    let a = (c .before .before .before .before .before .before .before .before .before .before .before .before .before .before .before .before .args) in
-    let goes = (c .before .before .before .before .before .before .before .before .before .before .before .before .before .before .before .before .pre) in
-    let used = (c .before .before .before .before .before .before .before .before .before .before .before .before .used-rows) .ensures in
-    let scaled = (c .before .before .before .before .before .before .before .before .before .scale-row) .ensures in
-    let restored = (c .before .before .before .restore-row) .ensures in
-    let row = row-out (a .j) (a .out .now) (a .work .now) goes _ used _ (scaled .1 .0) _ (restored .1 .1) in
-    let flag = flag-out (a .j) (a .out .now) (a .work .now) goes _ used _ (scaled .1 .0) _ (restored .1 .0) in
-    let work = work-is (a .j) (a .out .now) (a .work .now) goes _ used _ (scaled .1 .1) in
-    ((c .flag-after) .ensures ∙ ap (λ (f : Bool). a .j .flag || f) flag, (row, work))
+    let a = c .before .before .before .before .before .before .before .before .before .before .before .args in
+    let goes = c .before .before .before .before .before .before .before .before .before .before .before .pre in
+    let made = c .before .before .before .before .before .take-row .ensures in
+    let flag = flag-out (a .j) (a .out .now) (a .work .now) goes _ (made .1 .0) in
+    let row = row-out (a .j) (a .out .now) (a .work .now) goes _ (made .1 .1 .0) in
+    let work = work-out (a .j) (a .out .now) (a .work .now) goes _ (made .1 .1 .1) in
+    (c .flag-after .ensures ∙ ap (λ (f : Bool). a .j .flag || f) flag, (row, work))
 
 pub row-out-spec : {M : Type 1} → statement M
-row-out-spec =
-    tie.close
-    (tie.spec
-    used-rows-requires
-    scale-row-requires
-    restore-row-requires
-    flag-after-requires
-    same-length
-    same-length-2
-    returns)
+row-out-spec = tie.close (tie.spec take-row-requires flag-after-requires same-length same-length-2 returns)

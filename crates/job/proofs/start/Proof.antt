@@ -3,7 +3,7 @@ use Prim.Native.Nat.{ℕ, _*_}
 use mathlib.Core.Path.{sym, ap}
 use native.Mathlib.Omega.{arith}
 use borrow.Author.Needs.{needs}
-use Rattle.job.specs.Record.{planOf}
+use Rattle.job_rules.specs.Rules.{planOf}
 use Rattle.job.proofs.Answering.{start-refused, start-goes}
 use Rattle.job.proofs.Views.{start-went}
 use Rattle.job.proofs.start.Statement.{statement}

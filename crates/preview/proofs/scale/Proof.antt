@@ -4,10 +4,10 @@ use native.Mathlib.Omega.{arith}
 use lib.ListN.{length-replicate}
 use borrow.Author.Needs.{needs}
 use Rattle.pixels_layout.specs.declared.PixelLayout.the-variants.{Rgba8}
-use Rattle.job.specs.Record.{planOf}
 use Rattle.preview.proofs.Buffers.{rows-fit}
 use Rattle.preview.proofs.scale.Statement.{statement}
 use Rattle.preview.proofs.scale.Tie as tie
+use Rattle.job_rules.specs.Rules.{planOf}
 
 slice-aggregate-start : tie.Need-slice-aggregate-start
 slice-aggregate-start c = search needs

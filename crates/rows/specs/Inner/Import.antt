@@ -118,10 +118,6 @@ pub record Columns (s : List ℕ) (n m scale x debt : ℕ) (carry : Quad) (p : P
   pub each : Four (λ k. LaneColumn (laneBytes p s k) m scale x next debt' (at carry k) (at value k) (at carry' k))
 
 -- ---- a column where the width grows
-pub record Second (n r : ℕ) : Type 0 where
-  pub inside : r < n
-  pub is : 1 < n → r ≡ 1
-
 -- left is pixel x, and right the one after it if there is one
 pub record Stands (p : ℕ → ℕ → ℕ) (n : ℕ) (left right : Quad) (x : ℕ) : Type 0 where
   pub inside : x < n

@@ -1,7 +1,9 @@
 -- A refusal is handed on with the record; else the row is written and the record moves on by one. Assumes nothing.
-use mathlib.Core.Path.{sym}
+use mathlib.Core.Path.{_≡_, sym}
+use lib.ListN.{length}
 use native.Mathlib.Omega.{arith}
 use borrow.Author.Needs.{needs}
+use Rattle.job.specs.Calls.{takeNumber}
 use Rattle.job.proofs.Answering.{take-refused, take-writes, made-fits}
 use Rattle.job.proofs.Views.{take-went}
 use Rattle.job.proofs.Job.take.Statement.{statement}
@@ -25,7 +27,7 @@ row-out-requires c κs = sym (rw ((c .before .before .enum-told) .given .1) at (
 add-self : tie.Need-add-self
 add-self c =
     let a = (c .before .before .before .before .before .before .before .before .before .before .before .before .before .args) in
-    let z = sym (rw ((c .before .before .before .before .before .before .before .before .enum-told) .given .1) at ((c .before .before .before .before .before .before .before .before .before .before .check-take) .ensures)) in
+    let z : takeNumber (a .self) (length (a .out .now)) (length (a .work .now)) ≡ 0 = sym (rw ((c .before .before .before .before .before .before .before .before .enum-told) .given .1) at ((c .before .before .before .before .before .before .before .before .before .before .check-take) .ensures)) in
     let w = take-went (a .self) (a .out .now) (a .work .now) z in
     omega (arith, made-fits (a .self) (w .rules), w .ready)
 
@@ -38,7 +40,7 @@ same-length-2 c = search needs
 returns-2 : tie.Need-returns-2
 returns-2 c =
     let a = (c .before .before .before .before .before .before .before .before .before .before .before .before .before .args) in
-    let z = sym (rw ((c .before .before .before .before .before .before .before .before .enum-told) .given .1) at ((c .before .before .before .before .before .before .before .before .before .before .check-take) .ensures)) in
+    let z : takeNumber (a .self) (length (a .out .now)) (length (a .work .now)) ≡ 0 = sym (rw ((c .before .before .before .before .before .before .before .before .enum-told) .given .1) at ((c .before .before .before .before .before .before .before .before .before .before .check-take) .ensures)) in
     take-writes (a .self) (a .out .now) (a .work .now) z _ _ _ ((c .before .before .before .before .before .row-out) .ensures .1 .0) ((c .before .before .before .before .before .row-out) .ensures .1 .1) ((c .before .before .before .before .before .row-out) .ensures .0)
 
 pub take-spec : {M : Type 1} → statement M

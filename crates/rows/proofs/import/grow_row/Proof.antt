@@ -1,9 +1,9 @@
 -- `grow_row`: column after column. acc parts of the left pixel are unused by the columns made, and the next column uses n - 1 of them. Assumes nothing.
-use Prim.Native.Nat.{ℕ, suc, _+_, _-_, _*_, _/_, _≤_, _<_}
+use Prim.Native.Nat.{ℕ, suc, _+_, _-_, _*_, _/_, _%_, _≤_, _<_}
 use mathlib.Core.Path.{_≡_, refl, ap, _∙_}
 use mathlib.Core.List.{List}
 use native.Mathlib.Omega.{arith}
-use native.Mathlib.Nat.{mul-le-mul-right, lt-of-mul-lt-mul-right}
+use native.Mathlib.Nat.{mul-le-mul-right, lt-of-mul-lt-mul-right, mod-eq-of-lt, mod-lt}
 use lib.ListN.{length}
 use Rattle.arithmetic.specs.Word.{wrapAdd, wrapMul}
 use Rattle.arithmetic.specs.Table.{tabulate}
@@ -13,7 +13,7 @@ use Rattle.rows.specs.declared.import.Quad.{Quad}
 use Rattle.rows.specs.Column.{value}
 use Rattle.rows.specs.WorkRows.{written}
 use Rattle.rows.specs.Lanes.{rowValue}
-use Rattle.rows.specs.Inner.Import.{at, Four, stored, laneBytes, PixelAsks, Second, Stands, AdvanceAsks, Advances, writtenRow, RowAsks}
+use Rattle.rows.specs.Inner.Import.{at, Four, stored, laneBytes, PixelAsks, Stands, AdvanceAsks, Advances, writtenRow, RowAsks}
 use Rattle.rows.proofs.Columns.{lane-grown}
 use Rattle.rows.proofs.Lanes.{each, lane-byte, row-values, put-four, written-length}
 use Rattle.rows.proofs.import.grow_row.Statement.{statement}
@@ -26,19 +26,19 @@ record Inv (s : List ℕ) (n m : ℕ) (p : Places) (half₀ half : List ℕ) (le
   most : acc ≤ (m - 1) + (n - 1)
   half-is : half ≡ written (pixelLanes * j) (rowValue pixelLanes (laneBytes p s) n m) half₀
 
-first : {s half₀ : List ℕ} {n m r : ℕ} {p : Places} {left right : Quad} → RowAsks s half₀ n m p → Second n r
-    → Four (λ k. at left k ≡ laneBytes p s k 0) → Four (λ k. at right k ≡ laneBytes p s k r)
+first : {s half₀ : List ℕ} {n m : ℕ} {p : Places} {left right : Quad} → RowAsks s half₀ n m p
+    → Four (λ k. at left k ≡ laneBytes p s k 0) → Four (λ k. at right k ≡ laneBytes p s k (1 % n))
     → Inv s n m p half₀ half₀ left right 0 ((m - 1) + (n - 1)) 0
 unfolding tabulate
-first {s} {half₀} {n} {m} {r} {p} a b l e =
+first {s} {half₀} {n} {m} {p} a l e =
     record {
       so-far = omega arith;
       stands =
           record {
             inside = a .n-pos;
             left-is = l;
-            right-is = λ h. each (λ k g. g ∙ ap (laneBytes p s k) (b .is h)) e;
-            right-byte = each (λ k g. rw g (lane-byte s (a .bytes) p k r)) e;
+            right-is = λ h. each (λ k g. g ∙ ap (laneBytes p s k) (mod-eq-of-lt h)) e;
+            right-byte = each (λ k g. rw g (lane-byte s (a .bytes) p k (1 % n))) e;
           };
       along = omega arith;
       most = omega arith;
@@ -111,10 +111,10 @@ module _ {s half₀ half : List ℕ} {n m : ℕ} {p : Places} {left right : Quad
   done t = i .half-is ∙ ap (λ (k : ℕ). written (pixelLanes * k) (rowValue pixelLanes (laneBytes p s) n m) half₀) (let e : j ≡ m = omega (arith, i .so-far) in e)
 
 abbrev Inv-loop : tie.InvT-loop
-Inv-loop row n m p half₀ span step beside s₀ j₀ half s j = Inv row n m p half₀ half (s .left) (s .right) (s .x) (s .acc) j
+Inv-loop row n m p half₀ span step s₀ j₀ half s j = Inv row n m p half₀ half (s .left) (s .right) (s .x) (s .acc) j
 
 abbrev μ-loop : tie.MeasureT-loop
-μ-loop row n m p half₀ span step beside s₀ j₀ half s j = m - j
+μ-loop row n m p half₀ span step s₀ j₀ half s j = m - j
 
 sub-span : tie.Need-sub-span Inv-loop μ-loop
 sub-span c = omega (arith, c .before .before .pre .0 .m-pos)
@@ -131,30 +131,30 @@ cast-step c = omega (arith, c .before .before .pre .0 .n-small)
 read-lanes-requires : tie.Need-read-lanes-requires Inv-loop μ-loop
 read-lanes-requires c κs = let a = c .before .before .pre .0 in (pixel 0 a (a .n-pos), a .places)
 
-second-requires : tie.Need-second-requires Inv-loop μ-loop
-second-requires c κs = c .before .before .before .pre .0 .n-pos
+rem-read-lanes : tie.Need-rem-read-lanes Inv-loop μ-loop
+rem-read-lanes c = c .before .before .before .pre .0 .n-pos
 
 read-lanes-requires-2 : tie.Need-read-lanes-requires-2 Inv-loop μ-loop
-read-lanes-requires-2 c κs = let a = c .before .before .before .before .pre .0 in (pixel _ a (c .second .ensures .inside), a .places)
+read-lanes-requires-2 c κs = let a = c .before .before .before .pre .0 in (pixel _ a (mod-lt 1 (a .n-pos)), a .places)
 
-add-t15 : tie.Need-add-t15 Inv-loop μ-loop
-add-t15 c =
-    let a = c .before .before .before .before .before .pre .0 in
+add-t14 : tie.Need-add-t14 Inv-loop μ-loop
+add-t14 c =
+    let a = c .before .before .before .before .pre .0 in
     omega (arith, a .n-small, a .m-small)
 
 loop-holds : tie.Need-loop-holds Inv-loop μ-loop
 loop-holds c =
-    first (c .before .before .before .before .before .pre .0) (c .before .second .ensures) (c .before .before .read-lanes .ensures) (c .read-lanes2 .ensures)
+    first (c .before .before .before .before .pre .0) (c .before .read-lanes .ensures) (c .read-lanes2 .ensures)
 
 advance-requires : tie.Need-advance-requires Inv-loop μ-loop
 advance-requires c κs =
-    let pre = c .before .before .before .before .before .before .before .pre in
+    let pre = c .before .before .before .before .before .before .pre in
     asks (pre .0) (pre .1) (c .before .loop .inv) (c .loop-test .taken)
 
 sub-blend4 : tie.Need-sub-blend4 Inv-loop μ-loop
 sub-blend4 c =
     let b = c .before .before .before in
-    let pre = b .before .before .before .before .before .before .pre in
+    let pre = b .before .before .before .before .before .pre in
     rest (pre .0) (pre .1) (b .loop .inv) (c .before .advance .ensures)
 
 blend4-requires : tie.Need-blend4-requires Inv-loop μ-loop
@@ -163,13 +163,13 @@ blend4-requires c κs = tt
 put4-requires : tie.Need-put4-requires Inv-loop μ-loop
 put4-requires c κs =
     let t = c .before .before .before .before in
-    let pre = t .before .before .before .before .before .before .before .pre in
+    let pre = t .before .before .before .before .before .before .pre in
     omega (arith, same (pre .0) (pre .1) (t .before .loop .inv), pre .0 .room, pre .0 .m-small, t .loop-test .taken)
 
 add-j : tie.Need-add-j Inv-loop μ-loop
 add-j c =
     let t = c .before .before .before .before .before .before .before in
-    let pre = t .before .before .before .before .before .before .before .pre in
+    let pre = t .before .before .before .before .before .before .pre in
     omega (arith, pre .0 .m-small, t .loop-test .taken)
 
 loop-less : tie.Need-loop-less Inv-loop μ-loop
@@ -179,18 +179,18 @@ loop-again : tie.Need-loop-again Inv-loop μ-loop
 loop-again c =
     let v = c .before .before .before .before in
     let t = v .before .before .before in
-    let pre = t .before .before .before .before .before .before .before .pre in
+    let pre = t .before .before .before .before .before .before .pre in
     turn (pre .0) (pre .1) (t .before .loop .inv) (v .before .before .advance .ensures) (v .blend4 .result) (t .loop-test .taken)
     (v .blend4 .ensures) (c .before .before .put4 .last .0) (c .before .before .put4 .ensures)
 
 same-length : tie.Need-same-length Inv-loop μ-loop
 same-length c =
-    let pre = c .before .before .before .before .before .before .before .pre in
+    let pre = c .before .before .before .before .before .before .pre in
     same (pre .0) (pre .1) (c .before .loop .inv)
 
 returns : tie.Need-returns Inv-loop μ-loop
 returns c =
-    let pre = c .before .before .before .before .before .before .before .pre in
+    let pre = c .before .before .before .before .before .before .pre in
     done (pre .0) (pre .1) (c .before .loop .inv) (c .loop-test .left)
 
 pub grow-row-spec : {M : Type 1} → statement M
@@ -204,9 +204,9 @@ grow-row-spec =
     sub-step
     cast-step
     read-lanes-requires
-    second-requires
+    rem-read-lanes
     read-lanes-requires-2
-    add-t15
+    add-t14
     loop-holds
     advance-requires
     sub-blend4

@@ -9,12 +9,14 @@ use Rattle.pixels_layout.specs.declared.PixelLayout.{PixelLayout}
 use Rattle.pixels_layout.specs.declared.Places.{Places}
 use Rattle.pixels.specs.Sizes.{pixelLanes, halfValues}
 use Rattle.pixels_layout.specs.Layout.{placesOf}
-use Rattle.pixels.proofs.Numbers.{buffer-refused, buffer-written}
+use Rattle.pixels.proofs.Numbers.{buffer-refused}
 use Rattle.rows.specs.WorkRows.{written}
-use Rattle.rows.specs.Import.{importNumber, imported, importHalf}
+use Rattle.rows_tests.specs.Tests.{importNumber}
+use Rattle.rows.specs.Import.{importHalf}
 use Rattle.rows.specs.Inner.Import.{Bytes, writtenRow, RowAsks}
+use Rattle.rows.proofs.Importing.{import-written}
 use Rattle.rows.proofs.Layouts.{places-within, matted-row}
-use Rattle.rows.proofs.Importing.{import-of}
+use Rattle.rows_tests.proofs.Passing.{import-of}
 use Rattle.rows.proofs.import.import_row.Statement.{statement}
 use Rattle.rows.proofs.import.import_row.Tie as tie
 
@@ -34,20 +36,21 @@ module _ (layout : PixelLayout) (n m : ℕ) (s half : List ℕ) (p : Places) (e 
       }
 
   -- what was written by places is the row of the matted lanes
-  by-layout : (half' : List ℕ) → half' ≡ writtenRow p n m s half → half' ≡ imported layout n m s half
-  by-layout half' w =
+  by-layout : 0 ≡ importNumber n m (length s) (length half) → (half' : List ℕ) → half' ≡ writtenRow p n m s half → half' ≡ importHalf layout n m s half
+  by-layout goes half' w =
       w
       ∙ ap (λ (q : Places). writtenRow q n m s half) e
       ∙ ap (λ (f : ℕ → ℕ). written (halfValues pixelLanes m) f half) (matted-row layout s bytes n m)
+      ∙ sym (import-written layout n m s half (sym goes))
 
 check-import-requires : tie.Need-check-import-requires
 check-import-requires c κs = search needs
 
-enum-known-checked : tie.Need-enum-known-checked
-enum-known-checked c = search needs
-
 enum-told : tie.Need-enum-told
 enum-told c = search needs
+
+enum-told-2 : tie.Need-enum-told-2
+enum-told-2 c = search needs
 
 places-requires : tie.Need-places-requires
 places-requires c κs = search needs
@@ -59,22 +62,9 @@ shrink-row-requires c κs =
     let a = k .before .args in (
       asks (a .layout) (a .«crop-width») (a .«target-width») (a .row .now) (a .half .now) _ (c .before .before .places .ensures)
           (λ i. omega (arith, k .shared-slice-known .given i))
-          (rw (t .enum-told .given .1) at (t .before .before .check-import .ensures)),
+          (rw (t .enum-told2 .given .1) at (t .before .before .check-import .ensures)),
       c .before .if1 .taken,
     )
-
-same-length : tie.Need-same-length
-same-length c = search needs
-
-returns : tie.Need-returns
-unfolding importHalf
-returns c =
-    let t = c .before .before .before .before .before .before in
-    let k = t .before .before .before .before in
-    let a = k .before .args in
-    buffer-written _ _ _ (sym (rw (t .enum-told .given .1) at (t .before .before .check-import .ensures)))
-    (by-layout (a .layout) (a .«crop-width») (a .«target-width») (a .row .now) (a .half .now) _ (c .before .before .before .before .before .places .ensures)
-    (λ i. omega (arith, k .shared-slice-known .given i)) _ (c .before .before .shrink-row .ensures))
 
 grow-row-requires : tie.Need-grow-row-requires
 grow-row-requires c κs =
@@ -83,41 +73,58 @@ grow-row-requires c κs =
     let a = k .before .args in (
       asks (a .layout) (a .«crop-width») (a .«target-width») (a .row .now) (a .half .now) _ (c .before .before .places .ensures)
           (λ i. omega (arith, k .shared-slice-known .given i))
-          (rw (t .enum-told .given .1) at (t .before .before .check-import .ensures)),
+          (rw (t .enum-told2 .given .1) at (t .before .before .check-import .ensures)),
       c .before .if1 .left,
     )
 
-returns-2 : tie.Need-returns-2
+returns : tie.Need-returns
 unfolding importHalf
+returns c =
+    let e = c .before .before .check-import .ensures in
+    (e, buffer-refused (c .enum-told .given .0 .0) _ _ _ (sym (rw (c .enum-told .given .1) at e)) .1)
+
+same-length : tie.Need-same-length
+same-length c = search needs
+
+returns-2 : tie.Need-returns-2
 returns-2 c =
-    buffer-refused (c .before .checked .given .0 .0) _ _ _
-    (sym (rw (c .before .checked .given .1) at (c .before .before .before .check-import .ensures)))
+    let t = c .before .before .before .before .before .before in
+    let k = t .before .before .before .before in
+    let a = k .before .args in
+    let e = t .before .before .check-import .ensures in (
+      e,
+      by-layout (a .layout) (a .«crop-width») (a .«target-width») (a .row .now) (a .half .now) _ (c .before .before .before .before .before .places .ensures)
+          (λ i. omega (arith, k .shared-slice-known .given i))
+          (rw (t .enum-told2 .given .1) at e) _ (c .before .before .shrink-row .ensures),
+    )
 
 same-length-2 : tie.Need-same-length-2
 same-length-2 c = search needs
 
 returns-3 : tie.Need-returns-3
-unfolding importHalf
 returns-3 c =
     let t = c .before .before .before .before .before .before in
     let k = t .before .before .before .before in
     let a = k .before .args in
-    buffer-written _ _ _ (sym (rw (t .enum-told .given .1) at (t .before .before .check-import .ensures)))
-    (by-layout (a .layout) (a .«crop-width») (a .«target-width») (a .row .now) (a .half .now) _ (c .before .before .before .before .before .places .ensures)
-    (λ i. omega (arith, k .shared-slice-known .given i)) _ (c .before .before .grow-row .ensures))
+    let e = t .before .before .check-import .ensures in (
+      e,
+      by-layout (a .layout) (a .«crop-width») (a .«target-width») (a .row .now) (a .half .now) _ (c .before .before .before .before .before .places .ensures)
+          (λ i. omega (arith, k .shared-slice-known .given i))
+          (rw (t .enum-told2 .given .1) at e) _ (c .before .before .grow-row .ensures),
+    )
 
 pub import-row-spec : {M : Type 1} → statement M
 import-row-spec =
     tie.close
     (tie.spec
     check-import-requires
-    enum-known-checked
     enum-told
+    enum-told-2
     places-requires
     shrink-row-requires
-    same-length
-    returns
     grow-row-requires
+    returns
+    same-length
     returns-2
     same-length-2
     returns-3)

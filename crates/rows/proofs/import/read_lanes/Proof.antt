@@ -7,45 +7,27 @@ use borrow.Author.Needs.{needs}
 use Rattle.rows.proofs.import.read_lanes.Statement.{statement}
 use Rattle.rows.proofs.import.read_lanes.Tie as tie
 
-mul-i : tie.Need-mul-i
-mul-i c = search needs
+mul-alpha : tie.Need-mul-alpha
+mul-alpha c = search needs
 
-add-b : tie.Need-add-b
-add-b c = search needs
-
-add-g : tie.Need-add-g
-add-g c = search needs
-
-add-r : tie.Need-add-r
-add-r c = search needs
-
-add-a : tie.Need-add-a
-add-a c = search needs
+add-alpha : tie.Need-add-alpha
+add-alpha c = search needs
 
 shared-slice-read-alpha : tie.Need-shared-slice-read-alpha
 shared-slice-read-alpha c = search needs
 
-shared-slice-read-matte : tie.Need-shared-slice-read-matte
-shared-slice-read-matte c = search needs
+matted-requires : tie.Need-matted-requires
+matted-requires c κs = search needs
 
-matte-requires : tie.Need-matte-requires
-matte-requires c κs = search needs
+matted-requires-2 : tie.Need-matted-requires-2
+matted-requires-2 c κs = search needs
 
-shared-slice-read-matte-2 : tie.Need-shared-slice-read-matte-2
-shared-slice-read-matte-2 c = search needs
+matted-requires-3 : tie.Need-matted-requires-3
+matted-requires-3 c κs = search needs
 
-matte-requires-2 : tie.Need-matte-requires-2
-matte-requires-2 c κs = search needs
-
-shared-slice-read-matte-3 : tie.Need-shared-slice-read-matte-3
-shared-slice-read-matte-3 c = search needs
-
-matte-requires-3 : tie.Need-matte-requires-3
-matte-requires-3 c κs = search needs
-
-cast-t20 : tie.Need-cast-t20
-cast-t20 c =
-    let k = c .before .before .before .before .before .before .before .before .before .before .before in
+cast-t12 : tie.Need-cast-t12
+cast-t12 c =
+    let k = c .before .before .before .before .before in
     let a = k .before .args in
     omega (arith, k .shared-slice-known .given (4 * a .x + a .p .a))
 
@@ -53,27 +35,13 @@ returns : tie.Need-returns
 unfolding laneBytes mattedAt byteAt
 returns c =
     record {
-      l0 = c .before .before .before .before .matte .ensures;
-      l1 = c .before .before .matte2 .ensures;
-      l2 = c .matte3 .ensures;
+      l0 = c .before .before .matted .ensures;
+      l1 = c .before .matted2 .ensures;
+      l2 = c .matted3 .ensures;
       l3 = refl;
     }
 
 pub read-lanes-spec : {M : Type 1} → statement M
 read-lanes-spec =
     tie.close
-    (tie.spec
-    mul-i
-    add-b
-    add-g
-    add-r
-    add-a
-    shared-slice-read-alpha
-    shared-slice-read-matte
-    matte-requires
-    shared-slice-read-matte-2
-    matte-requires-2
-    shared-slice-read-matte-3
-    matte-requires-3
-    cast-t20
-    returns)
+    (tie.spec mul-alpha add-alpha shared-slice-read-alpha matted-requires matted-requires-2 matted-requires-3 cast-t12 returns)

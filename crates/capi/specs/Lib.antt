@@ -1,3 +1,0 @@
-pub mod Boundary
-pub mod Jobs
-pub mod Pictures

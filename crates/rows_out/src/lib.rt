@@ -1,0 +1,41 @@
+// A row goes out, whole (document 01, "A row goes out"; the Rust: Rescaler::export_row and the end of resize): scaled, restored and packed.
+use pixels::Checked;
+use pixels::Dimensions;
+use pixels::Flagged;
+use pixels::Rect;
+use pixels_layout::PixelLayout;
+use rows_restoring::restore_row;
+use rows_scaling::scale_row;
+use rows_schedule::used_rows;
+ghost use mathlib.Core.Path.{_≡_};
+ghost use lib.ListN.{length};
+ghost use Rattle.pixels.specs.Refusals.{flaggedNumber, flaggedFlag};
+ghost use Rattle.rows_out.specs.Out.{outNumber, outFlag, outRow, outWork};
+
+// Makes output row `row` (document 01's Y), of which `accepted` source rows came in; returns the row's alpha flag.
+// Rules out: the first row again and again; a row made of no crop rows; the flag of the row dropped.
+pub fn take_row(
+    layout: PixelLayout,
+    crop: Rect,
+    target: Dimensions,
+    accepted: u32,
+    row: u32,
+    out: &mut [u8],
+    work: &mut [u32],
+) -> Flagged
+    ensures number { λ r. ⌜ flaggedNumber r ≡ outNumber crop target accepted row (length (now (out .entry))) (length (now (work .entry))) ⌝ }
+    ensures flag { λ r. ⌜ flaggedFlag r ≡ outFlag layout crop target accepted row (length (now (out .entry))) (now (work .entry)) ⌝ }
+    ensures out { λ _. ⌜ now (out .exit) ≡ outRow layout crop target accepted row (now (out .entry)) (now (work .entry)) ⌝ }
+    ensures work { λ _. ⌜ now (work .exit) ≡ outWork crop target accepted row (length (now (out .entry))) (now (work .entry)) ⌝ }
+{
+    let used = used_rows(crop.y, crop.height, accepted);
+    let size = Dimensions {
+        width: crop.width,
+        height: crop.height,
+    };
+    let scaled = scale_row(size, target, used, row, out, work);
+    match scaled {
+        Checked::Refused(why) => Flagged::Refused(why),
+        Checked::Fit => restore_row(layout, target.width, out),
+    }
+}

@@ -1,0 +1,63 @@
+// The tests of a row that comes in and of one that goes out, in the order of their numbers (document 01, "Why a call is turned away").
+use pixels::Checked;
+use pixels::Dimensions;
+use pixels::PIXEL_LANES;
+use pixels::Refusal;
+use pixels::bad_side;
+use pixels::bad_size;
+use rows_due::due;
+ghost use mathlib.Core.Path.{_≡_};
+ghost use Rattle.pixels.specs.Refusals.{checkedNumber};
+ghost use Rattle.rows_tests.specs.Tests.{importNumber, scaleNumber};
+
+// Those of `import_row`, of a row of `bytes` bytes and a half of `room` values.
+// Rules out: a crop of the largest width refused; 5 told before 3.
+pub fn check_import(crop_width: u32, target_width: u32, bytes: usize, room: usize) -> Checked
+    ensures { λ r. ⌜ checkedNumber r ≡ importNumber «crop_width» «target_width» bytes room ⌝ }
+{
+    if bad_side(crop_width as u64) {
+        return Checked::Refused(Refusal::InvalidDimensions);
+    }
+    if bad_side(target_width as u64) {
+        return Checked::Refused(Refusal::InvalidDimensions);
+    }
+    if bytes != PIXEL_LANES * crop_width as usize {
+        return Checked::Refused(Refusal::PixelBufferMismatch);
+    }
+    if room < PIXEL_LANES * target_width as usize {
+        return Checked::Refused(Refusal::WorkLength);
+    }
+    Checked::Fit
+}
+
+// Those of `scale_row`, of an output of `out` bytes and `work` work values.
+// Rules out: 5 told before 4; a row made before its crop rows are in.
+pub fn check_scale(
+    crop: Dimensions,
+    target: Dimensions,
+    used: u32,
+    row: u32,
+    out: usize,
+    work: usize,
+) -> Checked
+    ensures { λ r. ⌜ checkedNumber r ≡ scaleNumber crop target used row out work ⌝ }
+{
+    if bad_size(crop) {
+        return Checked::Refused(Refusal::InvalidDimensions);
+    }
+    if bad_size(target) {
+        return Checked::Refused(Refusal::InvalidDimensions);
+    }
+    let w = PIXEL_LANES * target.width as usize;
+    let both = 2 * w;
+    if out != w {
+        return Checked::Refused(Refusal::OutputLength);
+    }
+    if work < both {
+        return Checked::Refused(Refusal::WorkLength);
+    }
+    if !due(crop.height, target.height, used, row) {
+        return Checked::Refused(Refusal::NoneReady);
+    }
+    Checked::Fit
+}
