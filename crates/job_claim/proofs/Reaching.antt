@@ -29,7 +29,7 @@ record Way (p : Plan) (pixels : List ℕ) (r : Run) : Type 0 where
   none-refused : NoneRefused p r calls
   source : run p r calls .seen .source ≡ pixels
   accepted : run p r calls .seen .accepted ≡ p .source .height
-  taken : run p r calls .seen .taken ≡ R p (p .source .height)
+  taken : run p r calls .seen .taken ≡ p .target .height
 
 offer-first : (p : Plan) (pixels : List ℕ) (r : Run) (rows : List ℕ) (lent : ℕ) → offerNumber r rows lent ≡ 0 → Way p pixels (step p r (Offer rows lent)) → Way p pixels r
 unfolding run
@@ -78,7 +78,7 @@ module _ (p : Plan) (pixels : List ℕ) (long : length pixels ≡ pictureBytes p
           none-refused = tt;
           source = first ∙ take-all (rowBytes (lanesOf p) (p .source .width) * s .accepted) pixels (rw (long, same) (omega arith));
           accepted = same;
-          taken = rw (← same) (omega (arith, v .rules .high));
+          taken = omega (arith, v .rules .high, rows-all (p .crop .y) (p .crop .height) (p .target .height) (v .rules .sizes .crop-height) (s .accepted) (omega (arith, v .rules .sizes .bottom)));
         }
 
     module _ (n : ℕ) (ih : (s : Seen) (work : List ℕ) → Inv p s work → First s → left s ≡ n → Way p pixels (runAt p s work)) (e : left s ≡ suc n) where

@@ -5,7 +5,7 @@ use mathlib.Core.Path.{_≡_, refl, sym, ap, _∙_}
 use mathlib.Core.Bool.{true, false}
 use mathlib.Core.List.{List}
 use native.Mathlib.Omega.{arith}
-use lib.ListN.{length, getD}
+use lib.ListN.{length, getD, drop}
 use Rattle.arithmetic.specs.Matte.{laneOf, multArgb, pixelOf}
 use Rattle.arithmetic.proofs.Mattes.{pixel-cong}
 use Rattle.arithmetic.specs.Weight.{span}
@@ -23,7 +23,7 @@ use Rattle.rows.specs.WorkRows.{byteOut}
 use Rattle.rows.specs.Closed.{scaled}
 use Rattle.rows.specs.Mean.{exactSum, total, Near, Premise}
 use Rattle.rows_laws.proofs.Held.{held-byte, held-out}
-use Rattle.rows_laws.proofs.WorkRows.{rowLeft-length}
+use Rattle.rows_laws.proofs.WorkRows.{rowLeft-length, rowLeft-rest}
 use Rattle.rows_laws.proofs.Distance.{distance}
 use Rattle.rows_laws.proofs.Taken.{takenPixel, Matted, matte-matted, taken-alpha, taken-opaque}
 use Rattle.job_rules.specs.declared.Plan.{Plan}
@@ -66,6 +66,14 @@ row-taken-length j work = length-tabulate _ (rowBytes (lanesOf (j .plan)) (j .pl
 pub left-length : (j : Job) (work : List ℕ) → workValues (lanesOf (j .plan)) (j .plan .target .width) ≤ length work → length (workTaken j work) ≡ length work
 unfolding workTaken
 left-length j work room = rowLeft-length _ _ _ work (omega arith)
+
+pub left-rest : (j : Job) (work : List ℕ)
+    → drop (workValues (lanesOf (j .plan)) (j .plan .target .width)) (workTaken j work) ≡ drop (workValues (lanesOf (j .plan)) (j .plan .target .width)) work
+unfolding workTaken
+left-rest j work =
+    let half : ℕ = halfValues (lanesOf (j .plan)) (j .plan .target .width) in
+    let both : workValues (lanesOf (j .plan)) (j .plan .target .width) ≡ half + half = omega arith in
+    rw both (rowLeft-rest (scaleBy (j .plan)) (usedBy j) (j .taken) work half)
 
 -- ---- the byte of lane k, column i, of a row
 module _ (p : Plan) (b : ℕ → ℕ) (y i : ℕ) (inside : i < p .target .width) where
