@@ -8,3 +8,4 @@ pub mod Theorem
 pub mod Reaching
 pub mod Whole
 pub mod Trials
+pub mod AnyPixel

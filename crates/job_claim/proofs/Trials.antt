@@ -20,7 +20,10 @@ use Rattle.job_claim.specs.Rows.{mattedByte, scaledLane, rowOf, rowsOf, 
 use Rattle.job_claim.specs.Trials.{AllHold, trials, givenOf, saidOf, pixel, opaque}
 
 pub all-hold : AllHold
-unfolding trials givenOf saidOf pixel opaque mattedByte scaledLane rowOf rowsOf resized resizedFlag newest shareBefore firstHalf scaledByte scaled share ratio byteDown blend byteUp start over last columnSum carry shrinkValue growValue value made needed since someClear hasAlpha restoredPixel restoredPlace packedByte badSide badSize sizeNumber derivedSide scaledNumber laneOf matteFactor restoreFactor factorOf scaleColour orOnto pixelOf multArgb span growWeight tabulate sum MULT FLOOR FRAC ceil
+unfolding trials givenOf saidOf pixel opaque mattedByte scaledLane rowOf rowsOf resized resizedFlag
+    newest shareBefore firstHalf scaledByte scaled share ratio byteDown blend byteUp start over last columnSum carry shrinkValue growValue value
+    made needed since someClear hasAlpha restoredPixel restoredPlace packedByte badSide badSize sizeNumber derivedSide scaledNumber
+    laneOf matteFactor restoreFactor factorOf scaleColour orOnto pixelOf multArgb span growWeight tabulate sum MULT FLOOR FRAC ceil
 all-hold Rgba8 = refl
 all-hold Argb8 = refl
 all-hold Bgra8 = refl
