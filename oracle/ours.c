@@ -129,10 +129,11 @@ static void unpack_all(const uint64_t* v) {
 
 static void pack_all(const uint64_t* v) {
   Buffer argb = lend_pixels(2, v[3], v[4], 4 * v[1]), out = lend_out(v[2]);
+  uint32_t flag = 0;
   keep(&argb);
-  const uint32_t n = ours_pack(v[0], (const uint32_t*)argb.at, v[1], out.at, out.n);
+  const uint32_t n = ours_pack(v[0], (const uint32_t*)argb.at, v[1], out.at, out.n, &flag);
   if (n == OURS_ABSENT) puts("-");
-  else whole(n, 0, &out, NULL, intact(&argb) & intact(&out));
+  else whole(n, flag, &out, NULL, intact(&argb) & intact(&out));
   give_back(argb), give_back(out);
 }
 

@@ -29,6 +29,7 @@ uint32_t ours_apply_alpha_plane(uint32_t layout, uint32_t w, uint32_t h, uint8_t
                                 uint32_t* flag);
 uint32_t ours_has_alpha(uint32_t layout, uint32_t w, uint32_t h, const uint8_t* pixels, size_t len, uint32_t* flag);
 uint32_t ours_unpack(uint32_t layout, const uint8_t* bytes, size_t len, uint32_t* out, size_t out_len);
-uint32_t ours_pack(uint32_t layout, const uint32_t* argb, size_t count, uint8_t* out, size_t out_len);
+/* *flag is the alpha flag of the values. */
+uint32_t ours_pack(uint32_t layout, const uint32_t* argb, size_t count, uint8_t* out, size_t out_len, uint32_t* flag);
 uint32_t ours_scaled(uint32_t w, uint32_t h, uint32_t tw, uint32_t th, uint32_t* width, uint32_t* height);
 #endif
