@@ -1,26 +1,17 @@
 -- DEMAND 3 proved: each part of the claim follows from the invariant, and a list that offers one row after another and takes what is ready reaches the end.
 -- Assumes nothing.
-use Prim.Native.Nat.{ℕ, zero, suc, _+_, _*_, _-_, _/_, _%_, _≤_, _<_, min}
-use mathlib.Core.Path.{_≡_, refl, sym, _∙_, ap, subst}
+use Prim.Native.Nat.{ℕ, zero, suc, _+_, _-_, _≤_, _<_, min}
+use mathlib.Core.Path.{_≡_, refl}
 use mathlib.Core.Logic.{_⊎_, inl, inr}
-use mathlib.Core.List.{List, [], _∷_, _++_}
+use mathlib.Core.List.{List, []}
 use native.Mathlib.Omega.{arith}
-use native.Mathlib.Nat.{div-add-mod, div-eq-of-lt-le}
-use lib.ListN.{length, getD, take, drop, replicate, length-replicate, length-append, length-drop, take-append-drop}
-use lib.Seq.{take-length, length-take-le}
-use lib.Dec.{eqb}
-use borrow.Author.Tests.{eq-eqb}
+use lib.ListN.{length, getD, take, replicate, length-replicate}
+use lib.Seq.{take-length}
 use Rattle.arithmetic.proofs.Orders.{le-or-lt}
-use Rattle.arithmetic.specs.Weight.{span}
-use Rattle.pixels.specs.declared.Refusal.the-variants.{RowReady, AllAccepted, NoneReady}
-use Rattle.pixels.specs.Sizes.{pixelLanes, rowBytes, pictureBytes, workValues, sizeOf, Fits}
-use Rattle.pixels_layout.specs.Layout.{placeOf, alphaLane}
-use Rattle.pixels_alpha.specs.Alpha.{hasAlpha}
-use Rattle.pixels_crop.specs.Crop.{cropped}
-use Rattle.rows_schedule.proofs.Crop.{rows-all, rows-most}
-use Rattle.rows.specs.Mean.{exactSum, total, Near, Premise}
+use Rattle.pixels.specs.Sizes.{rowBytes}
+use Rattle.rows_schedule.proofs.Crop.{rows-most}
 use Rattle.job_rules.specs.declared.Plan.{Plan}
-use Rattle.job_rules.specs.Rules.{lanesOf, R, startNumber}
+use Rattle.job_rules.specs.Rules.{lanesOf, R}
 use Rattle.job_rules.proofs.Rules.{rules-good}
 use Rattle.job.specs.declared.Job.{Job}
 use Rattle.job.specs.Record.{readyOf}
@@ -29,11 +20,11 @@ use Rattle.job.proofs.Counting.{counted-stop}
 use Rattle.job.proofs.Ready.{ready-some}
 use Rattle.job.proofs.Views
 use Rattle.job.proofs.Views.{WholeRows, TakeWent, OfferWent}
-use Rattle.job_claim.specs.Rows.{rowOf, mattedByte, joined, resized, resizedFlag}
-use Rattle.job_claim.specs.Calls.{Call, Offer, Take, Seen, Run, step, run, begun, offerNumber, offerRows, takeNumber, NoneRefused}
+use Rattle.job_claim.specs.Rows.{rowOf}
+use Rattle.job_claim.specs.Calls.{Seen, Run, begun, offerNumber, offerRows, takeNumber}
 use Rattle.job_claim.specs.Claim.{RightTake, RightOffer, Ready, Smallest, RestStays, Claim, Demand3}
 use Rattle.job_claim.proofs.Taking.{alpha-near, colour-near}
-use Rattle.job_claim.proofs.Invariant.{jobAt, runAt, Inv, Kept, step-kept, run-kept, begun-kept, offer-leads, offer-kept, take-leads, take-kept, count-some, count-most, count-low, count-bytes, tookSeen}
+use Rattle.job_claim.proofs.Invariant.{jobAt, runAt, Inv, run-kept, begun-kept, take-leads, take-kept, count-some, count-most, count-low}
 use Rattle.job_claim.proofs.TurnedAway.{offer-three, offer-five, offer-same, take-four, take-five, take-same}
 use Rattle.job_claim.proofs.Whole.{seen-whole, seen-whole-flag}
 use Rattle.job_claim.proofs.Reaching.{some-list}
@@ -189,7 +180,7 @@ claimed p given s work v rest =
       whole-flag = seen-whole-flag p s work v;
     }
 
--- DEMAND 3
+-- DEMAND 3, an end in itself
 pub demand-3 : Demand3
 demand-3 = record {
   every-list = λ p work accepted calls.

@@ -9,7 +9,7 @@ use Rattle.pixels.specs.Sizes.{rowBytes, pictureBytes, workValues, sizeOf}
 use Rattle.pixels_layout.specs.Layout.{placeOf, alphaLane}
 use Rattle.pixels_alpha.specs.Alpha.{hasAlpha}
 use Rattle.pixels_crop.specs.Crop.{cropped}
-use Rattle.rows.specs.Mean.{exactSum, total, Near, Premise}
+use Rattle.rows_laws.specs.Mean.{exactSum, total, Near, Premise}
 use Rattle.job_rules.specs.declared.Plan.{Plan}
 use Rattle.job_rules.specs.Rules.{lanesOf, R, startNumber}
 use Rattle.job.specs.Record.{readyOf}
