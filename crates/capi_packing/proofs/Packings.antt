@@ -6,9 +6,9 @@ use mathlib.Core.List.{List, [], _∷_}
 use lib.ListN.{length}
 use borrow.Author.Tests.{lt-ltb, le-ltb}
 use Rattle.pixels.specs.declared.Checked.{Checked}
-use Rattle.pixels.specs.Refusals.{checkedNumber, bufferIf}
+use Rattle.pixels.specs.Refusals.{checkedNumber}
 use Rattle.pixels_layout.specs.declared.PixelLayout.{PixelLayout}
-use Rattle.pixels_layout.specs.Layout.{packedPixels, unpackedPixels, packNumber, unpackNumber, packOut, unpackOut}
+use Rattle.pixels_layout.specs.Layout.{packNumber, unpackNumber, packOut, unpackOut}
 use Rattle.pixels_alpha.specs.Alpha.{argbHasAlpha}
 use Rattle.capi_words.specs.Words.{wordLayout, isLayout, flagWord, stored}
 use Rattle.capi_words.specs.Boundary.{boundary}

@@ -1,9 +1,10 @@
 -- The two starred trials of document 01 that speak of any pixel. "1 by 1 to 1 by 2: all 0": the span is 1, so the factor wrapped to 0. "Opaque 1 by 1 to 2 by 1: the
--- pixel twice": both columns have the pixel's lanes, and an opaque pixel passes matte and restore unchanged. Assumes nothing.
+-- pixel twice": both columns have the pixel's lanes, and an opaque pixel passes matte and restore unchanged. Both are ends in
+-- themselves. Assumes nothing.
 use Prim.Native.Nat.{ℕ, zero, suc, _+_, _*_, _/_, _%_, _^_, _≤_, _<_}
-use mathlib.Core.Path.{_≡_, refl, sym, ap, ap₂, _∙_}
+use mathlib.Core.Path.{_≡_, refl, ap, ap₂, _∙_}
 use mathlib.Core.Bool.{true, false}
-use mathlib.Core.List.{List, [], _∷_, _++_}
+use mathlib.Core.List.{[], _∷_, _++_}
 use native.Mathlib.Omega.{arith}
 use lib.ListN.{getD}
 use Rattle.arithmetic.specs.Quotient.{ceil}
@@ -12,7 +13,7 @@ use Rattle.arithmetic.specs.Sum.{sum}
 use Rattle.arithmetic.specs.Table.{tabulate}
 use Rattle.arithmetic.specs.Weight.{span, growWeight}
 use Rattle.arithmetic.specs.Matte.{laneOf, pixelOf, multArgb}
-use Rattle.arithmetic.proofs.Mattes.{lane-byte, lanes-make, pixel-lane, pixel-word, pixel-cong, argb-opaque}
+use Rattle.arithmetic.proofs.Mattes.{lane-byte, lanes-make, pixel-lane, pixel-cong, argb-opaque}
 use Rattle.arithmetic.proofs.Tables.{tabulate-cong}
 use Rattle.pixels.specs.Sizes.{sizeOf}
 use Rattle.pixels_layout.specs.declared.PixelLayout.{PixelLayout}
@@ -115,6 +116,10 @@ bytes r g b hr hg hb (suc (suc zero)) h = omega arith
 bytes r g b hr hg hb (suc (suc (suc zero))) h = omega arith
 bytes r g b hr hg hb (suc (suc (suc (suc k)))) h = absurd (omega arith)
 
+word : (r g b : ℕ) → r < 256 → g < 256 → b < 256 → pixelOf (lanes r g b) < 2 ^ 32
+unfolding pixelOf
+word r g b hr hg hb = omega arith
+
 pub pixel-twice : PixelTwice
 unfolding resized rowsOf
 pixel-twice l r g b hr hg hb =
@@ -122,5 +127,5 @@ pixel-twice l r g b hr hg hb =
     let n : ℕ = pixelOf (lanes r g b) in
     let at : (k : ℕ) → k < 4 → laneOf (pixelOf (lanes r g b)) k ≡ lanes r g b k = pixel-lane (lanes r g b) small in
     let alpha : laneOf (pixelOf (lanes r g b)) 3 ≡ 255 = at 3 (omega arith) in
-    row-is l (read l r g b) n (pixel-word (lanes r g b) small) alpha (read-lanes l r g b)
+    row-is l (read l r g b) n (word r g b hr hg hb) alpha (read-lanes l r g b)
     ∙ twice l r g b n (at 0 (omega arith)) (at 1 (omega arith)) (at 2 (omega arith)) alpha

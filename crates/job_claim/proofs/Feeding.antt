@@ -1,18 +1,16 @@
 -- The accepted rows one after another: what the work rows hold after each, and that lengths stay. Assumes nothing.
-use Prim.Native.Nat.{ℕ, zero, suc, _+_, _-_, _*_, _/_, _%_, _^_, _≤_, _<_}
+use Prim.Native.Nat.{ℕ, zero, suc, _+_, _-_, _*_, _≤_, _<_}
 use mathlib.Core.Path.{_≡_, refl, sym, ap, _∙_}
-use mathlib.Core.Bool.{Bool, true, false, cond, _&&_}
 use mathlib.Core.Logic.{_⊎_, inl, inr}
 use mathlib.Core.List.{List}
 use native.Mathlib.Omega.{arith}
 use native.Mathlib.Nat.{le-trans, mul-le-mul-left}
-use lib.ListN.{length, getD, take, drop}
+use lib.ListN.{length, getD, drop}
 use lib.Seq.{getD-take, getD-drop, length-take-le}
-use lib.Dec.{leb, ltb}
 use borrow.Author.Tests.{le-leb, lt-leb, lt-ltb, le-ltb}
 use Rattle.pixels.specs.Sizes.{pixelLanes, rowBytes, halfValues, workValues, Fits}
 use Rattle.pixels_crop.specs.Crop.{pictureRow}
-use Rattle.rows_schedule.specs.Schedule.{used, since, rowsBy}
+use Rattle.rows_schedule.specs.Schedule.{used}
 use Rattle.rows_schedule.proofs.Crop.{Place, within, beside, place, inside, used-row, rows-le}
 use Rattle.rows_schedule.proofs.Needed.{since-le}
 use Rattle.rows.specs.WorkRows.{rowIn}

@@ -1,18 +1,16 @@
 -- What holds after every list of calls from a fresh job. The record is what was counted (`jobAt`); the work rows hold, for every byte function that agrees with
 -- the accepted bytes, what the closed form says; each row handed out is the closed form's. A call turned away changes nothing. Assumes nothing.
-use Prim.Native.Nat.{ℕ, zero, suc, _+_, _*_, _-_, _/_, _%_, _≤_, _<_, min}
-use mathlib.Core.Path.{_≡_, refl, sym, _∙_, ap, ap₂}
+use Prim.Native.Nat.{ℕ, zero, suc, _+_, _*_, _-_, _≤_, _<_, min}
+use mathlib.Core.Path.{_≡_, refl, sym, _∙_, ap}
 use mathlib.Core.Logic.{_⊎_, inl, inr, ⊎-elim}
-use mathlib.Core.Bool.{Bool, true, false, cond, _||_}
+use mathlib.Core.Bool.{Bool, _||_}
 use mathlib.Core.List.{List, [], _∷_, _++_, append-nil}
 use native.Mathlib.Omega.{arith}
-use native.Mathlib.Nat.{eq-or-lt-of-le, le-of-suc-le-suc, div-add-mod, mul-le-mul-left, le-trans, add-zero, mul-zero}
+use native.Mathlib.Nat.{eq-or-lt-of-le, le-of-suc-le-suc, div-add-mod, mul-le-mul-left, le-trans, mul-zero}
 use native.Mathlib.Numerals.{add-one}
 use lib.ListN.{length, getD, take, drop, replicate, length-append, length-take, length-drop, length-replicate, take-append-drop, List·getD-append}
 use lib.Seq.{getD-take, getD-append-add, getD-at, length-take-le, length-front, drop-append-le, drop-at}
-use lib.Dec.{eqb}
-use borrow.Author.Tests.{eq-eqb}
-use Rattle.pixels.specs.Sizes.{pixelLanes, rowBytes, halfValues, workValues, Fits}
+use Rattle.pixels.specs.Sizes.{rowBytes, halfValues, workValues}
 use Rattle.pixels_alpha.specs.Alpha.{hasAlpha}
 use Rattle.rows_schedule.specs.Schedule.{used}
 use Rattle.rows_schedule.proofs.Crop.{rows-le, rows-none}
@@ -20,14 +18,14 @@ use Rattle.rows_laws.proofs.Held.{held-start, held-same}
 use Rattle.job_rules.specs.declared.Plan.{Plan}
 use Rattle.job_rules.specs.Rules.{lanesOf, R, startNumber}
 use Rattle.job.specs.declared.Job.{Job}
-use Rattle.job.specs.Record.{Rules, fresh}
+use Rattle.job.specs.Record.{Rules}
 use Rattle.job.specs.Calls as calls
-use Rattle.job.specs.Calls.{scaleBy, mostRows, count, lentRows, moreAccepted, moreTaken, fed, rowTaken, workTaken, startWork, cleared}
+use Rattle.job.specs.Calls.{scaleBy, mostRows, count, lentRows, moreAccepted, moreTaken, fed, rowTaken, workTaken, cleared}
 use Rattle.job.proofs.Counting.{counted-most, counted-low, counted-some}
 use Rattle.job.proofs.Views.{WholeRows, OfferTurned, OfferWent, offer-view, TakeTurned, TakeWent, take-view, StartWent, start-went}
 use Rattle.job_claim.specs.Rows.{rowOf, joined}
 use Rattle.job_claim.specs.Claim.{RestStays}
-use Rattle.job_claim.specs.Calls.{Call, Offer, Take, Seen, Run, nothing, step, run, begun, seenOffer, seenTake}
+use Rattle.job_claim.specs.Calls.{Call, Offer, Take, Seen, Run, nothing, step, run, begun, seenOffer}
 use Rattle.job_claim.proofs.Reading.{cropValue}
 use Rattle.job_claim.proofs.Feeding.{Holds, fed-held, fed-length, fed-rest}
 use Rattle.job_claim.proofs.Taking.{row-is, left-holds, row-taken-length, left-length, left-rest}

@@ -1,16 +1,16 @@
 -- For every source of the right length there is a list of calls that brings all of it and takes every row, no call being turned away: offer one row after another,
 -- and take while a row is ready. What is left to accept and to take falls with each call. Assumes nothing.
-use Prim.Native.Nat.{ℕ, zero, suc, _+_, _*_, _-_, _/_, _%_, _≤_, _<_, min}
-use mathlib.Core.Path.{_≡_, refl, sym, _∙_, ap}
+use Prim.Native.Nat.{ℕ, zero, suc, _+_, _*_, _-_, _/_, _%_, _≤_, _<_}
+use mathlib.Core.Path.{_≡_, refl, _∙_, ap}
 use mathlib.Core.Logic.{_⊎_, inl, inr}
 use mathlib.Core.List.{List, [], _∷_, _++_}
 use native.Mathlib.Omega.{arith}
-use native.Mathlib.Nat.{div-add-mod, mul-le-mul-left}
-use lib.ListN.{length, getD, take, drop, replicate, length-replicate}
+use native.Mathlib.Nat.{div-add-mod}
+use lib.ListN.{length, take, drop, replicate, length-replicate}
 use lib.Seq.{take-length, take-add, take-all}
 use Rattle.arithmetic.proofs.Orders.{le-or-lt}
 use Rattle.arithmetic.proofs.Quotients.{div-is}
-use Rattle.pixels.specs.Sizes.{pixelLanes, rowBytes, pictureBytes, workValues}
+use Rattle.pixels.specs.Sizes.{pixelLanes, rowBytes, pictureBytes}
 use Rattle.pixels_crop.specs.Crop.{pictureRow}
 use Rattle.rows_schedule.proofs.Crop.{rows-most, rows-all}
 use Rattle.job_rules.specs.declared.Plan.{Plan}
@@ -18,7 +18,7 @@ use Rattle.job_rules.specs.Rules.{lanesOf, R, startNumber}
 use Rattle.job.specs.Calls.{count, lentRows}
 use Rattle.job.proofs.Views
 use Rattle.job.proofs.Views.{WholeRows}
-use Rattle.job_claim.specs.Calls.{Call, Offer, Take, Seen, Run, nothing, step, run, begun, offerNumber, takeNumber, NoneRefused}
+use Rattle.job_claim.specs.Calls.{Call, Offer, Take, Seen, Run, nothing, step, run, offerNumber, takeNumber, NoneRefused}
 use Rattle.job_claim.specs.Claim.{Reached}
 use Rattle.job_claim.proofs.Feeding.{row-length}
 use Rattle.job_claim.proofs.Invariant.{jobAt, runAt, Inv, offer-leads, offer-kept, take-leads, take-kept, count-some, count-most, begun-inv}

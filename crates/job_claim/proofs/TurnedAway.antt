@@ -1,10 +1,10 @@
 -- Calls with a buffer of another length get 3, 4 or 5, and a call that is turned away leaves the run as it was. Assumes nothing.
 use Prim.Native.Nat.{ℕ, _%_, _<_}
 use mathlib.Core.Path.{_≡_}
-use mathlib.Core.Logic.{_⊎_, inl, inr}
+use mathlib.Core.Logic.{inl, inr}
 use mathlib.Core.Bool.{true, false, not, or-true}
-use mathlib.Core.List.{List, _∷_}
-use lib.Dec.{eqb, ltb}
+use mathlib.Core.List.{List}
+use lib.Dec.{eqb}
 use lib.ListN.{length, take}
 use borrow.Author.Tests.{eq-eqb, ne-eqb, lt-ltb}
 use Rattle.pixels.specs.Sizes.{rowBytes, workValues}
@@ -16,7 +16,7 @@ use Rattle.job_rules.specs.Rules.{lanesOf, badRows, lawfulOf, offerCauses, offe
 use Rattle.job_rules.proofs.Rules.{rules-good}
 use Rattle.job.proofs.Views
 use Rattle.job.proofs.Views.{whole-good}
-use Rattle.job_claim.specs.Calls.{Offer, Take, Seen, Run, step, offerNumber, takeNumber, takeOut}
+use Rattle.job_claim.specs.Calls.{Offer, Take, Seen, step, offerNumber, takeNumber, takeOut}
 use Rattle.job_claim.specs.Claim.{WrongRows, ShortWork}
 use Rattle.job_claim.proofs.Invariant.{jobAt, runAt, Inv, offer-stays, take-stays}
 

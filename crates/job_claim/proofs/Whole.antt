@@ -8,9 +8,8 @@ use mathlib.Core.Logic.{_⊎_, inl, inr, ⊎-elim}
 use mathlib.Core.List.{List, [], _∷_, _++_}
 use native.Mathlib.Omega.{arith}
 use native.Mathlib.Nat.{mul-le-mul-left, le-of-mul-le-mul-right, le-of-suc-le-suc, eq-or-lt-of-le}
-use lib.ListN.{length, getD, take, drop, length-append, length-drop, List·getD-append}
+use lib.ListN.{length, getD, take, length-append, List·getD-append}
 use lib.Seq.{length-take-le, take-suc, take-all, getD-take, getD-append-add}
-use borrow.Author.Tests.{le-leb}
 use Rattle.arithmetic.specs.Matte.{laneOf, multArgb}
 use Rattle.arithmetic.specs.Weight.{span}
 use Rattle.arithmetic.proofs.Tables.{length-tabulate, tabulate-cong}
@@ -29,7 +28,7 @@ use Rattle.rows.specs.Column.{value}
 use Rattle.rows.specs.Closed.{scaled}
 use Rattle.rows_laws.proofs.Reach.{scaledByte-same}
 use Rattle.job_rules.specs.declared.Plan.{Plan}
-use Rattle.job_rules.specs.Rules.{lanesOf, R}
+use Rattle.job_rules.specs.Rules.{lanesOf}
 use Rattle.job_claim.specs.Rows.{sourceByte, mattedByte, scaledLane, rowOf, joined, rowsOf, resizePlan, resized, resizedFlag}
 use Rattle.job_claim.specs.Calls.{Seen}
 use Rattle.arithmetic.proofs.Mattes.{pixel-cong}
