@@ -1,16 +1,13 @@
 /* The port as the oracle's driver (ours.c) calls it. One adapter file implements these over the port's own C boundary;
  * only that file knows its header.
  *
- * Every function returns document 01's number, 0 for success, or OURS_ABSENT where the boundary has no such function: the
- * driver then answers "-" and the comparison says what it left out.
+ * Every function returns document 01's number, 0 for success.
  * A slice is a pointer and a count of elements (bytes for pixels and output, words for work values).
  * Layout 0 is Rgba8, 1 Argb8, 2 Bgra8. A flag is 0 or 1. Flags, sizes and counts are written on success only. */
 #ifndef OURS_H
 #define OURS_H
 #include <stddef.h>
 #include <stdint.h>
-
-#define OURS_ABSENT 0xffffffffu
 
 /* Source width, source height, layout, crop x, y, width, height, target width, target height, rows accepted, rows taken, flag. */
 #define OURS_RECORD 12
