@@ -97,6 +97,16 @@ uint32_t jonquilsaw_apply_alpha_plane(uint32_t width, uint32_t height, uint32_t 
  * kept, rounded up. Refuses with 100 (fewer than two words of size), 1 (both sides 0, or a side of 0 or above 16,384), in this order. */
 uint32_t jonquilsaw_scaled(uint32_t width, uint32_t height, uint32_t target_width, uint32_t target_height, uint32_t *size, size_t size_count);
 
+/* Packs pixels given as numbers 0xAARRGGBB to out, exactly 4 bytes for each. Refuses with 100 (a layout that is none), 4, in this order. */
+uint32_t jonquilsaw_pack_pixels(uint32_t layout, const uint32_t *argb, size_t argb_count, uint8_t *out, size_t out_count);
+
+/* Unpacks the pixels of bytes to argb as numbers 0xAARRGGBB, exactly bytes / 4 of them: 1 to 3 trailing bytes are ignored. Refuses with 100 (a layout that is
+ * none), 4, in this order. */
+uint32_t jonquilsaw_unpack_pixels(uint32_t layout, const uint8_t *bytes, size_t bytes_count, uint32_t *argb, size_t argb_count);
+
+/* Writes the alpha flag of pixels given as numbers 0xAARRGGBB to the first word of flag: 1 if any alpha isn't 255, else 0. Refuses with 100 (no word of flag). */
+uint32_t jonquilsaw_argb_has_alpha(const uint32_t *argb, size_t argb_count, uint32_t *flag, size_t flag_count);
+
 #ifdef __cplusplus
 }
 #endif

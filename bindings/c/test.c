@@ -275,6 +275,31 @@ static void sizes(void) {
     EXPECT(jonquilsaw_scaled(3, 2, 7, 5, size, 2) == 0 && size[0] == 7 && size[1] == 5);
 }
 
+static void packing(void) {
+    for (uint32_t layout = 0; layout < 3; layout++) {
+        uint8_t *bytes = bytes_of(11, 0), *out = bytes_of(8, 9);
+        uint32_t *argb = words_of(3, 7), *flag = words_of(2, 7);
+        put(bytes, layout, 2, 3, 4, 1);
+        put(bytes + 4, layout, 6, 7, 8, 255);
+        /* unpacked: three trailing bytes are ignored */
+        EXPECT(jonquilsaw_unpack_pixels(3, bytes, 11, argb, 1) == JONQUILSAW_BOUNDARY);
+        EXPECT(jonquilsaw_unpack_pixels(layout, bytes, 11, argb, 3) == JONQUILSAW_OUTPUT_LENGTH);
+        EXPECT(jonquilsaw_unpack_pixels(layout, bytes, 11, argb, 1) == JONQUILSAW_OUTPUT_LENGTH);
+        EXPECT(words_all(argb, 3, 7));
+        EXPECT(jonquilsaw_unpack_pixels(layout, bytes, 11, argb, 2) == 0 && argb[0] == 0x01020304u && argb[1] == 0xff060708u && argb[2] == 7);
+        /* packed again */
+        EXPECT(jonquilsaw_pack_pixels(3, argb, 2, out, 7) == JONQUILSAW_BOUNDARY);
+        EXPECT(jonquilsaw_pack_pixels(layout, argb, 2, out, 7) == JONQUILSAW_OUTPUT_LENGTH);
+        EXPECT(jonquilsaw_pack_pixels(layout, argb, 1, out, 8) == JONQUILSAW_OUTPUT_LENGTH);
+        EXPECT(all(out, 8, 9));
+        EXPECT(jonquilsaw_pack_pixels(layout, argb, 2, out, 8) == 0 && memcmp(out, bytes, 8) == 0);
+        /* their flag */
+        EXPECT(jonquilsaw_argb_has_alpha(argb, 2, flag, 0) == JONQUILSAW_BOUNDARY && words_all(flag, 2, 7));
+        EXPECT(jonquilsaw_argb_has_alpha(argb, 2, flag, 2) == 0 && flag[0] == 1 && flag[1] == 7);
+        EXPECT(jonquilsaw_argb_has_alpha(argb + 1, 1, flag, 1) == 0 && flag[0] == 0);
+    }
+}
+
 int main(void) {
     starts();
     offers_and_takes();
@@ -283,6 +308,7 @@ int main(void) {
     schedule(3, 5, (const uint32_t[]){0, 1, 3, 5});
     strips();
     pictures();
+    packing();
     sizes();
     printf("c: %lu checks, %lu failed\n", checks, failures);
     return failures == 0 ? 0 : 1;

@@ -5,7 +5,7 @@
 //! Numbers come from table.rs and are held against the original wherever it can be asked; a line that begins with `!`
 //! says that the original disagrees with itself or with the table, and the comparison fails.
 use crate::geometry::Rect;
-use crate::image::{Dimensions, Image, PixelLayout, pack_pixels, unpack_pixels};
+use crate::image::{Dimensions, Image, PixelLayout, argb_has_alpha, pack_pixels, unpack_pixels};
 use crate::job::{Call, FLAG, Job, K, Pixels, Record, Sizes, T};
 use crate::picture::{bytes, fill_bytes, fill_words, fnv_words, hex, plane};
 use crate::probe::open::{Scaler, alpha_scale, mult_argb};
@@ -169,7 +169,7 @@ fn whole_answer(job: &Job) -> String {
             let words: Vec<u32> = bytes(2, px.pattern, px.seed, 4 * count).as_chunks::<4>().0.iter().map(|&c| u32::from_le_bytes(c)).collect();
             let fits = *out == 4 * words.len();
             let out = if fits { pack_pixels(layout(*l), &words) } else { fill_bytes(*out) };
-            Whole { number: if fits { 0 } else { 4 }, flag: false, out, work: None }.line()
+            Whole { number: if fits { 0 } else { 4 }, flag: fits && argb_has_alpha(&words), out, work: None }.line()
         }
         Job::Scaled { w, h, tw, th } => match Dimensions::new(*w, *h).and_then(|d| d.scaled(*tw, *th)) {
             Ok(d) => format!("0 {} {}", d.width(), d.height()),

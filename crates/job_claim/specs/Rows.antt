@@ -9,7 +9,7 @@ use Rattle.arithmetic.specs.Matte.{laneOf, pixelOf, multArgb}
 use Rattle.pixels.specs.declared.Dimensions.{Dimensions}
 use Rattle.pixels.specs.declared.Rect.{Rect}
 use Rattle.pixels_layout.specs.declared.PixelLayout.{PixelLayout}
-use Rattle.pixels.specs.Sizes.{pixelLanes, rowBytes, rectOf}
+use Rattle.pixels.specs.Sizes.{rowBytes, rectOf}
 use Rattle.pixels_layout.specs.Layout.{placeOf}
 use Rattle.pixels_layout.specs.Lanes.{restoredPlace}
 use Rattle.pixels_alpha.specs.Alpha.{hasAlpha}

@@ -9,7 +9,7 @@ use Rattle.arithmetic.proofs.Orders.{le-or-lt}
 use Rattle.arithmetic.proofs.Weights.{span-shrink, span-grow}
 use Rattle.rows.specs.Column.{value}
 use Rattle.rows.specs.Closed.{scaled}
-use Rattle.rows.specs.Mean.{total, exactSum, Near, Premise}
+use Rattle.rows_laws.specs.Mean.{total, exactSum, Near, Premise}
 use Rattle.rows_laws.proofs.Close.{Close}
 use Rattle.rows_laws.proofs.Columns.{exact, slack, slack-small, span-most, value-close, exact-range}
 use Rattle.rows_laws.proofs.HeightShrinks.{distance-down}

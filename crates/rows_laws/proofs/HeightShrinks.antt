@@ -22,7 +22,7 @@ use Rattle.rows_schedule.specs.Schedule.{needed, since}
 use Rattle.rows_schedule.proofs.Needed.{down-low, down-high, since-rise, needed-le}
 use Rattle.rows.specs.Output.{restDown, share, ratio, byteDown, clamp}
 use Rattle.rows.specs.Closed.{newest, shareBefore, firstHalf, scaledByte}
-use Rattle.rows.specs.Mean.{Near, sumBound}
+use Rattle.rows_laws.specs.Mean.{Near, sumBound}
 use Rattle.rows_laws.proofs.Close.{Close, close-weighted, near-clamp}
 use Rattle.rows_laws.proofs.Newest.{newest-at, newest-most}
 

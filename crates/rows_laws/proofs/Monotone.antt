@@ -21,7 +21,7 @@ use Rattle.rows_schedule.specs.Schedule.{needed, since}
 use Rattle.rows_schedule.proofs.Needed.{needed-le, needed-equal, since-rise}
 use Rattle.rows.specs.Column.{start, over, last, columnSum, carry, shrinkValue, growValue, value}
 use Rattle.rows.specs.Output.{clamp, restDown, share, ratio, byteDown, restUp, mixed, blend, byteUp}
-use Rattle.rows.specs.Mean.{sumBound}
+use Rattle.rows_laws.specs.Mean.{sumBound}
 use Rattle.rows.specs.Closed.{newest, shareBefore, firstHalf, scaledByte, scaled}
 use Rattle.rows.proofs.Columns.{value-shrink, value-grow, over-small}
 use Rattle.rows_laws.proofs.Columns.{start-step, start-within, slack-small, value-range-511}

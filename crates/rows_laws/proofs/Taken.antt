@@ -11,7 +11,7 @@ use Rattle.arithmetic.specs.Weight.{span}
 use Rattle.arithmetic.specs.Matte.{laneOf, pixelOf, multArgb, scaleColour, matteFactor, restoreFactor}
 use Rattle.arithmetic.proofs.Mattes.{pixel-lane, lane-byte, lane-zero, matte-colour, matte-within, argb-opaque, argb-clear, restore-alpha, restore-colour, scaleColour-mono}
 use Rattle.rows.specs.Closed.{scaled}
-use Rattle.rows.specs.Mean.{sumBound}
+use Rattle.rows_laws.specs.Mean.{sumBound}
 use Rattle.rows_laws.proofs.Monotone.{scaled-mono, scaled-byte}
 
 -- ---- a pixel of four lanes, no colour above its alpha, restored
