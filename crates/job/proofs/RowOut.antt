@@ -13,8 +13,8 @@ use Rattle.rows_schedule.proofs.Needed.{needed-used}
 use Rattle.rows_due.specs.Due.{due}
 use Rattle.rows_due.proofs.DueRow.{needed-due}
 use Rattle.rows_tests.proofs.Passing.{scale-passes}
-use Rattle.rows_scaling.proofs.ScaleRow.{scale-made}
 use Rattle.rows_out.specs.Out.{cropSize, outNumber, rowMade, outFlag, outRow, outWork}
+use Rattle.rows_out.proofs.ScaleRow.{scale-made}
 use Rattle.rows_out.proofs.Making.{flag-written, row-written}
 use Rattle.job_rules.specs.declared.Plan.{Plan}
 use Rattle.job.specs.declared.Job.{Job}

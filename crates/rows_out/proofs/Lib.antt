@@ -1,1 +1,2 @@
+pub mod ScaleRow
 pub mod Making

@@ -20,8 +20,8 @@ use Rattle.pixels_alpha.specs.Alpha.{hasAlpha}
 use Rattle.rows.specs.WorkRows.{scaleOf, byteOut}
 use Rattle.rows_tests.specs.Tests.{scaleNumber}
 use Rattle.rows_tests.proofs.Passing.{passed-of}
-use Rattle.rows_scaling.specs.Scaling.{scaledOut, scaledWork}
-use Rattle.rows_scaling.proofs.ScaleRow.{scale-made, scale-refused}
+use Rattle.rows_out.specs.Scaled.{scaledOut, scaledWork}
+use Rattle.rows_out.proofs.ScaleRow.{scale-made, scale-refused}
 use Rattle.rows_restoring.specs.Restoring.{restoreNumber, restoredRow, restoredOut, rowFlag}
 use Rattle.rows_restoring.proofs.RestoreRow.{restore-passes, restore-made}
 use Rattle.rows_out.specs.Out.{cropSize, usedOf, outNumber, rowMade, outFlag, outRow, outWork}

@@ -15,7 +15,7 @@ use Rattle.pixels_alpha.specs.Alpha.{hasAlpha}
 use Rattle.rows_schedule.specs.Schedule.{used}
 use Rattle.rows.specs.WorkRows.{scaleOf, byteOut}
 use Rattle.rows_tests.specs.Tests.{scaleNumber}
-use Rattle.rows_scaling.specs.Scaling.{scaledWork}
+use Rattle.rows_out.specs.Scaled.{scaledWork}
 
 abbrev pub cropSize : Rect → Dimensions
 cropSize crop = sizeOf (crop .width) (crop .height)

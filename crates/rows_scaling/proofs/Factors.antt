@@ -3,7 +3,6 @@ use Prim.Native.Nat.{ℕ, zero, suc, _+_, _*_, _-_, _/_, _%_, _^_, _≤_, _<_}
 use mathlib.Core.Path.{_≡_, refl, sym, ap, ap₂, _∙_}
 use mathlib.Core.Bool.{Bool, true, false, cond}
 use mathlib.Core.List.{List, _++_}
-use mathlib.Core.Logic.{⊎-elim}
 use native.Mathlib.Omega.{arith}
 use native.Mathlib.Nat.{mul-le-mul-left, mul-le-mul-right, mul-zero, zero-div, le-refl}
 use native.Mathlib.Numerals.{add-one}
@@ -13,9 +12,6 @@ use borrow.Author.Tests.{le-leb, lt-leb, eq-eqb, ne-eqb, ltb-true}
 use Rattle.arithmetic.specs.Word.{wrapSub, wrapMul}
 use Rattle.arithmetic.specs.FixedPoint.{MULT, FLOOR, FRAC}
 use Rattle.arithmetic.specs.Table.{tabulate}
-use Rattle.arithmetic.specs.Weight.{span}
-use Rattle.arithmetic.proofs.Orders.{le-or-lt}
-use Rattle.arithmetic.proofs.Weights.{span-shrink, span-grow}
 use Rattle.arithmetic.proofs.Tables.{tabulate-cong}
 use Rattle.arithmetic.proofs.Quotients.{div-bound}
 use Rattle.arithmetic.proofs.FixedPoints.{frac-exact, frac-zero}
@@ -95,11 +91,6 @@ factor-half (suc zero) ne = lit< tt
 factor-half (suc (suc n)) ne =
     let more : 2 < suc (suc n) = omega arith in
     rw (frac-exact 1 (suc (suc n)) (omega arith)) (div-bound (suc (suc n)) (omega arith) (omega arith))
-
--- the span of a crop is at least 1
-pub span-some : (n m : ℕ) → 1 ≤ n → 1 ≤ span n m
-span-some n m p =
-    ⊎-elim (λ h. rw (span-shrink n m h) p) (λ h. rw (span-grow n m h) (omega arith)) (le-or-lt m n)
 
 -- ---- g ≤ h: what the loops write is what document 01 says
 module _ (s : Scale) (u y : ℕ) (work : List ℕ) (down : s .g ≤ s .h) where

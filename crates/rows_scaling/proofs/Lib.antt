@@ -3,4 +3,4 @@ pub mod Factors
 pub mod ShrinkLanes
 pub mod BlendLanes
 pub mod RestRange
-pub mod ScaleRow
+pub mod ScaleValues

@@ -5,9 +5,8 @@ use arithmetic::mult_fix;
 use arithmetic::mult_fix_floor;
 use arithmetic::wrapping_mul;
 use pixels::Checked;
-use pixels::Dimensions;
-use pixels::PIXEL_LANES;
-use rows_tests::check_scale;
+use rows_tests::RowScale;
+use rows_tests::check_values;
 use std::num::wrapping_sub_u32;
 ghost use mathlib.Core.Path.{_≡_};
 ghost use mathlib.Core.List.{_++_};
@@ -17,21 +16,12 @@ ghost use lib.ListN.{length, drop};
 ghost use Rattle.arithmetic.specs.Word.{wrapMul};
 ghost use Rattle.arithmetic.specs.FixedPoint.{FRAC};
 ghost use Rattle.arithmetic.specs.Table.{tabulate};
-ghost use Rattle.arithmetic.specs.Weight as weight;
 ghost use Rattle.pixels.specs.Refusals.{checkedNumber};
 ghost use Rattle.rows.specs.Output.{clamp, restDown, ratio, mixed};
 ghost use Rattle.rows.specs.WorkRows.{halfOf, byteOut, rowLeft};
-ghost use Rattle.rows_tests.specs.Tests.{scaleNumber};
-ghost use Rattle.rows_scaling.specs.Scaling.{scaledOut, scaledWork};
-ghost use Rattle.rows_scaling.specs.Inner.Scaling.{scaleIn, RowAsks, RoomAsks, GrowAsks, Halved, shrinkLeft, shrinkByte, lowByte, growByte};
-
-// What rows are scaled by: document 01's span, crop height h and target height g, and w, the values of a half.
-struct RowScale {
-    span: u32,
-    h: u32,
-    g: u32,
-    w: usize,
-}
+ghost use Rattle.rows_tests.specs.Tests.{valuesNumber};
+ghost use Rattle.rows_scaling.specs.Scaling.{scaleIn, valuesOut, valuesWork};
+ghost use Rattle.rows_scaling.specs.Inner.Scaling.{RowAsks, RoomAsks, GrowAsks, Halved, shrinkLeft, shrinkByte, lowByte, growByte};
 
 // v, at most 255. Where v is below 2^31 the two signed tests become one saturating pack of many values; `signed` is the same for a whole row, so the
 // loops are compiled once for each.
@@ -142,16 +132,6 @@ fn half_of(w: usize, c: u32) -> usize
     0
 }
 
-// Document 01's span.
-fn span(n: u32, m: u32) -> u32
-    ensures { λ r. ⌜ r ≡ weight.span n m ⌝ }
-{
-    if m <= n {
-        return n;
-    }
-    m - 1
-}
-
 // The factor that f of each value is taken by: FRAC(1,g)×d modulo 2^32. FLOOR with the factor 0 is 0, so that d = 0 is no case of its own.
 fn share_step(s: RowScale, used: u32, row: u32) -> u32
     requires { ⌜ RowAsks (scaleIn s) used row ⌝ }
@@ -218,47 +198,25 @@ fn grow_row(s: RowScale, used: u32, row: u32, out: &mut [u8], work: &[u32])
     blend_lanes(work, new, old, w, b, factor, signed, out);
 }
 
-// Makes a row of w values, whatever the lanes of its pixels. The Rust: Rescaler::export_row.
-fn make_row(s: RowScale, used: u32, row: u32, out: &mut [u8], work: &mut [u32])
-    requires { ⌜ RowAsks (scaleIn s) used row ⌝ }
-    requires { ⌜ RoomAsks (now work) (now out) (s .w) ⌝ }
-    ensures out { λ _. ⌜ now (out .exit) ≡ tabulate (byteOut (scaleIn s) used row (now (work .entry))) (s .w) ⌝ }
-    ensures work { λ _. ⌜ now (work .exit) ≡ rowLeft (scaleIn s) used row (now (work .entry)) ⌝ }
+// Makes output row `row` (document 01's Y) of a crop of which `used` rows came in: w values, whatever the lanes of its pixels, none of them restored yet.
+// The Rust: Rescaler::export_row. Rules out: f rounded to the nearest; a difference that saturates; the ratio 2^32 taken as a word; the halves exchanged; one
+// column mended.
+pub fn scale_values(s: RowScale, used: u32, row: u32, out: &mut [u8], work: &mut [u32]) -> Checked
+    ensures number { λ r. ⌜ checkedNumber r ≡ valuesNumber s used row (length (now (out .entry))) (length (now (work .entry))) ⌝ }
+    ensures out { λ _. ⌜ now (out .exit) ≡ valuesOut s used row (now (out .entry)) (now (work .entry)) ⌝ }
+    ensures work { λ _. ⌜ now (work .exit) ≡ valuesWork s used row (length (now (out .entry))) (now (work .entry)) ⌝ }
 {
-    if s.g <= s.h {
-        shrink_row(s, used, row, out, work);
-        return;
-    }
-    grow_row(s, used, row, out, work);
-}
-
-// Makes output row `row` (document 01's Y) of a crop of which `used` rows came in, as lanes B, G, R, A that are not restored yet.
-// The Rust: Rescaler::export_row. Rules out: f rounded to the nearest; a difference that saturates; a row made before its crop rows are in.
-pub fn scale_row(
-    crop: Dimensions,
-    target: Dimensions,
-    used: u32,
-    row: u32,
-    out: &mut [u8],
-    work: &mut [u32],
-) -> Checked
-    ensures number { λ r. ⌜ checkedNumber r ≡ scaleNumber crop target used row (length (now (out .entry))) (length (now (work .entry))) ⌝ }
-    ensures out { λ _. ⌜ now (out .exit) ≡ scaledOut crop target used row (now (out .entry)) (now (work .entry)) ⌝ }
-    ensures work { λ _. ⌜ now (work .exit) ≡ scaledWork crop target used row (length (now (out .entry))) (now (work .entry)) ⌝ }
-{
-    let checked = check_scale(crop, target, used, row, out.len(), work.len());
+    let checked = check_values(s, used, row, out.len(), work.len());
     match checked {
         Checked::Refused(why) => {
             return Checked::Refused(why);
         }
         Checked::Fit => {}
     }
-    let s = RowScale {
-        span: span(crop.width, target.width),
-        h: crop.height,
-        g: target.height,
-        w: PIXEL_LANES * target.width as usize,
-    };
-    make_row(s, used, row, out, work);
+    if s.g <= s.h {
+        shrink_row(s, used, row, out, work);
+        return Checked::Fit;
+    }
+    grow_row(s, used, row, out, work);
     Checked::Fit
 }

@@ -1,15 +1,17 @@
 -- A row's number is 0 exactly if every test passes, and what the tests say then. Assumes nothing.
-use Prim.Native.Nat.{ℕ, _≤_}
+use Prim.Native.Nat.{ℕ, _+_, _≤_}
 use mathlib.Core.Path.{_≡_}
 use mathlib.Core.Bool.{true, false}
-use borrow.Author.Tests.{le-ltb, ltb-false}
+use native.Mathlib.Omega.{arith}
+use borrow.Author.Tests.{le-ltb, ltb-false, ne-eqb, eqb-false}
 use Rattle.pixels.specs.declared.Dimensions.{Dimensions}
 use Rattle.pixels.specs.Sizes.{pixelLanes, rowBytes, halfValues, workValues, badSide, badSize, Side}
 use Rattle.pixels.proofs.Causes.{first-none, none-applies}
 use Rattle.pixels.proofs.Fitting.{side-of, side-good}
 use Rattle.pixels.proofs.Truths.{neither-true, not-false, same, same-of}
 use Rattle.rows_due.specs.Due.{due}
-use Rattle.rows_tests.specs.Tests.{importCauses, importNumber, scaleCauses, scaleNumber}
+use Rattle.rows_tests.specs.declared.RowScale.{RowScale}
+use Rattle.rows_tests.specs.Tests.{importCauses, importNumber, scaleCauses, scaleNumber, valuesCauses, valuesNumber}
 
 -- ---- a crop row that comes in
 
@@ -63,6 +65,37 @@ module _ (crop target : Dimensions) (u y outBytes workCount : ℕ) where
       record {
         crop-fits = p .0;
         target-fits = p .1 .0;
+        out-exact = same-of _ _ (p .1 .1 .0);
+        work-enough = ltb-false _ _ (p .1 .1 .1 .0);
+        ready = not-false _ (p .1 .1 .1 .1 .0);
+      }
+
+-- ---- the same of a row of w values
+pub record ValuesPass (s : RowScale) (u y outBytes workCount : ℕ) : Type 0 where
+  pub span-some : 1 ≤ s .span
+  pub h-some : 1 ≤ s .h
+  pub out-exact : outBytes ≡ s .w
+  pub work-enough : s .w + s .w ≤ workCount
+  pub ready : due (s .h) (s .g) u y ≡ true
+
+module _ (s : RowScale) (u y outBytes workCount : ℕ) where
+  pub values-pass : ValuesPass s u y outBytes workCount → valuesNumber s u y outBytes workCount ≡ 0
+  unfolding valuesNumber
+  values-pass p =
+      let span-some : s .span ≡ 0 → ⊥ = λ e. omega (arith, p .span-some) in
+      let h-some : s .h ≡ 0 → ⊥ = λ e. omega (arith, p .h-some) in
+      first-none (valuesCauses s u y outBytes workCount)
+      (ne-eqb (s .span) 0 span-some, (ne-eqb (s .h) 0 h-some, (same _ _ (p .out-exact), (le-ltb _ _ (p .work-enough), (simp (p .ready), tt)))))
+
+  pub values-of : valuesNumber s u y outBytes workCount ≡ 0 → ValuesPass s u y outBytes workCount
+  unfolding valuesNumber
+  values-of e =
+      let p = none-applies (valuesCauses s u y outBytes workCount) e in
+      let span-some : s .span ≡ 0 → ⊥ = eqb-false (s .span) 0 (p .0) in
+      let h-some : s .h ≡ 0 → ⊥ = eqb-false (s .h) 0 (p .1 .0) in
+      record {
+        span-some = omega (arith, span-some);
+        h-some = omega (arith, h-some);
         out-exact = same-of _ _ (p .1 .1 .0);
         work-enough = ltb-false _ _ (p .1 .1 .1 .0);
         ready = not-false _ (p .1 .1 .1 .1 .0);

@@ -8,7 +8,15 @@ use pixels::bad_size;
 use rows_due::due;
 ghost use mathlib.Core.Path.{_≡_};
 ghost use Rattle.pixels.specs.Refusals.{checkedNumber};
-ghost use Rattle.rows_tests.specs.Tests.{importNumber, scaleNumber};
+ghost use Rattle.rows_tests.specs.Tests.{importNumber, scaleNumber, valuesNumber};
+
+// What rows are scaled by: document 01's span, crop height h and target height g, and w, the values of a half.
+pub struct RowScale {
+    pub span: u32,
+    pub h: u32,
+    pub g: u32,
+    pub w: usize,
+}
 
 // Those of `import_row`, of a row of `bytes` bytes and a half of `room` values.
 // Rules out: a crop of the largest width refused; 5 told before 3.
@@ -57,6 +65,29 @@ pub fn check_scale(
         return Checked::Refused(Refusal::WorkLength);
     }
     if !due(crop.height, target.height, used, row) {
+        return Checked::Refused(Refusal::NoneReady);
+    }
+    Checked::Fit
+}
+
+// Those of `scale_values`, of an output of `out` bytes and `work` work values.
+// Rules out: a row of a crop without rows; work values for one half alone.
+pub fn check_values(s: RowScale, used: u32, row: u32, out: usize, work: usize) -> Checked
+    ensures { λ r. ⌜ checkedNumber r ≡ valuesNumber s used row out work ⌝ }
+{
+    if s.span == 0 {
+        return Checked::Refused(Refusal::InvalidDimensions);
+    }
+    if s.h == 0 {
+        return Checked::Refused(Refusal::InvalidDimensions);
+    }
+    if out != s.w {
+        return Checked::Refused(Refusal::OutputLength);
+    }
+    if work / 2 < s.w {
+        return Checked::Refused(Refusal::WorkLength);
+    }
+    if !due(s.h, s.g, used, row) {
         return Checked::Refused(Refusal::NoneReady);
     }
     Checked::Fit

@@ -3,7 +3,7 @@ use mathlib.Core.Path.{sym, _∙_}
 use native.Mathlib.Omega.{arith}
 use borrow.Author.Needs.{needs}
 use Rattle.rows_scaling.proofs.Factors.{ratio-word, ratio-below, shrink-out, shrink-work, take-out, take-work}
-use Rattle.rows_scaling.specs.Inner.Scaling.{scaleIn}
+use Rattle.rows_scaling.specs.Scaling.{scaleIn}
 use Rattle.rows_scaling.proofs.shrink_row.Statement.{statement}
 use Rattle.rows_scaling.proofs.shrink_row.Tie as tie
 

@@ -10,11 +10,6 @@ use Rattle.arithmetic.specs.FixedPoint.{MULT, FLOOR}
 use Rattle.rows.specs.Output.{clamp, mixed}
 use Rattle.rows.specs.WorkRows.{Scale}
 use Rattle.rows_due.specs.Due.{due}
-use Rattle.rows_scaling.specs.declared.RowScale.{RowScale}
-
--- what the code's record says
-abbrev pub scaleIn : RowScale → Scale
-scaleIn s = record { span = s .span; h = s .h; g = s .g; w = s .w }
 
 -- a row that is due
 pub record RowAsks (s : Scale) (u y : ℕ) : Type 0 where

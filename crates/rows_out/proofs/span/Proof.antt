@@ -2,8 +2,8 @@
 use mathlib.Core.Path.{sym}
 use Rattle.arithmetic.proofs.Weights.{span-shrink, span-grow}
 use borrow.Author.Needs.{needs}
-use Rattle.rows_scaling.proofs.span.Statement.{statement}
-use Rattle.rows_scaling.proofs.span.Tie as tie
+use Rattle.rows_out.proofs.span.Statement.{statement}
+use Rattle.rows_out.proofs.span.Tie as tie
 
 returns : tie.Need-returns
 returns c = sym (span-shrink (c .before .args .n) (c .before .args .m) (c .if1 .taken))
