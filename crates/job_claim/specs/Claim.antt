@@ -67,7 +67,7 @@ totalOf p = total (p .crop .width) (p .target .width) (p .crop .height) (p .targ
 abbrev pub Bounded : Plan → Type 0
 Bounded p = Premise (span (p .crop .width) (p .target .width)) (p .crop .height) (p .target .height)
 
--- ---- "start clears both, and the rest is untouched", by no call: given is the slice as it was lent to start
+-- ---- "the rest is untouched", by start and by every call: given is the slice as it was lent to start
 pub record RestStays (p : Plan) (given work : List ℕ) : Type 0 where
   pub as-many : length work ≡ length given
   pub as-given : drop (workValues (lanesOf p) (p .target .width)) work ≡ drop (workValues (lanesOf p) (p .target .width)) given
