@@ -80,7 +80,7 @@ module _ (a : ℕ) (small : a < pixelLanes) (pixels plane : List ℕ) where
       tabulate-is (alphaByte a pixels plane) px (λ x l. h x ∙ partly-before (length plane) x (omega arith))
       ∙ ap (tabulate (alphaByte a pixels plane)) long
 
--- the new flag is the plane's
+-- an end in itself: the new flag is the plane's, whatever the pixels were
 pub plane-flag : (l : PixelLayout) (pixels plane : List ℕ) → length pixels ≡ pixelLanes * length plane → hasAlpha l (withAlpha l pixels plane) (length plane) ≡ someClear (λ i. getD plane i 0) (length plane)
 unfolding hasAlpha withAlpha
 plane-flag l pixels plane whole =
