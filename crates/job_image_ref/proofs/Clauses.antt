@@ -14,7 +14,7 @@ module _ {M : Type 1} (𝓤 : URA M) where
   beside P R h = via 𝓤 (sep 𝓤 (emp 𝓤) P) (emp∗ 𝓤 P) (via 𝓤 (sep 𝓤 R P) (monoL 𝓤 P h) (comm∗ 𝓤 R P))
 
   -- a fact, and a fact before the rest
-  last : (φ : Type 0) → φ → ent 𝓤 (emp 𝓤) (fact 𝓤 φ)
+  pub last : (φ : Type 0) → φ → ent 𝓤 (emp 𝓤) (fact 𝓤 φ)
   last φ x = factI 𝓤 φ (emp 𝓤) x
 
   more : (φ : Type 0) (R : SProp 𝓤) → φ → ent 𝓤 (emp 𝓤) R → ent 𝓤 (emp 𝓤) (sep 𝓤 (fact 𝓤 φ) R)
@@ -22,7 +22,7 @@ module _ {M : Type 1} (𝓤 : URA M) where
 
 module _ {M : Type 1} {𝓤 : URA M} {H : Heap 𝓤} {A : Atoms 𝓤} {K : Type 0} {W : Given 𝓤 H A} {Γ : List (Item 𝓤)} where
   -- what holds of nothing need not be shown
-  adds : K → (P R : SProp 𝓤) → ent 𝓤 (emp 𝓤) R → Step K W Γ (prop P) Γ (prop (sep 𝓤 P R))
+  pub adds : K → (P R : SProp 𝓤) → ent 𝓤 (emp 𝓤) R → Step K W Γ (prop P) Γ (prop (sep 𝓤 P R))
   adds t P R h = step (λ s. record { prf = via 𝓤 P (s .prf) (beside 𝓤 P R h) })
 
   pub says-two : K → {φ ψ : Type 0} {P : SProp 𝓤} → φ → ψ → Step K W Γ (prop P) Γ (prop (sep 𝓤 P (sep 𝓤 (fact 𝓤 φ) (fact 𝓤 ψ))))

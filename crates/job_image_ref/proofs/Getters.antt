@@ -17,8 +17,6 @@ use prog.Memory.{fieldOf}
 use prog.Wp.{Heap, Calls, Loops, WpFn, Tables}
 use ghost.Atoms.{Atoms, sem}
 use contract.Lifetimes.{Lfts}
-use contract.Monad.{fact}
-use contract.Notation.{connectives}
 use types.Kit.{Given, ‵, _⊛_, _$_, _∵_, !, qed, by, move, use1, split, fsplit, fjoin, suffices, frame, done}
 use types.Part.{whole, sub, look-in}
 use types.Run.{look, init, forget, stop, fld, from, load, of-opd, assigns, returns, enter, alloc1, alloc0, params1, pass1, pass0, free1, free0}
@@ -33,11 +31,12 @@ use denote.Struct.Rest.{ownAt}
 use denote.Triple.Clauses.{Ended, Clauses, closing}
 use denote.Triple.Entry.{onEntry}
 use denote.Triple.Spec.{Meets}
-use denote.Triple.Walked.{says, Stays, stay-none, walkOf, goes-none, Walks, ends-at, walked, walk-meets}
+use denote.Triple.Walked.{Stays, stay-none, walkOf, goes-none, Walks, ends-at, walked, walk-meets}
 use denote.Exit.{yes}
 use Rattle.pixels.proofs.Dimensions as S
 use Rattle.pixels.proofs.Dimensions.Laws as S′
 use Rattle.job_image_ref.specs.declared.ImageRef.{ImageRef}
+use Rattle.job_image_ref.proofs.Clauses.{adds}
 use Rattle.job_image_ref.proofs.Fields.{D, L, fields, mach, Own, field}
 use Rattle.job_image_ref.proofs.Tag.{tag}
 use Rattle.job_image_ref.proofs.ImageRef as T
@@ -68,10 +67,8 @@ module _ (R : Slot 1) (i : ℕ) (τ : Ty) (x : (κs : Lfts 1) → ImageRef → t
     body = seq (assign (place 0 []) (rvOpd (copy (place 1 (Sx.field i ∷ []))))) return;
   }
 
-  module _ {M : Type 1} (𝓤 : URA M) (H : Heap 𝓤) (A : Atoms 𝓤) (W : Given 𝓤 H A) where
-    abbrev pub clauses : Clauses 𝓤 ended
-    clauses κs args = record { ghost = Unit {0}; requires = λ g. connectives 𝓤 .⊤ₛ; ensures = λ g r end. fact 𝓤 (r ≡ x κs (args .0)) }
-
+  -- the contract's clauses
+  module _ {M : Type 1} (𝓤 : URA M) (H : Heap 𝓤) (A : Atoms 𝓤) (W : Given 𝓤 H A) (clauses : Clauses 𝓤 ended) where
     module _ (κ : Lft) (d : ImageRef) where
       abbrev α : NamedLft
       α = namedLft 1 0 tt (κ, tt)
@@ -87,19 +84,20 @@ module _ (R : Slot 1) (i : ℕ) (τ : Ty) (x : (κs : Lfts 1) → ImageRef → t
       abbrev Given-back : Fml
       Given-back = typeAt R (κ, tt) .own (x (κ, tt) d) (v ∷ [])
 
-      -- what is known of a getter: these are the same, and the field has its type where the picture has
+      -- what is known of a getter: the clauses hold of its value, what the field owns is what the result owns, and the field has its type where the picture has
       pub record Right : Type 1 where
+        pub said : (g : clauses (κ, tt) (d, tt) .ghost) → ent 𝓤 (emp 𝓤) (clauses (κ, tt) (d, tt) .ensures g (x (κ, tt) d) (d, tt))
         pub owned : ent 𝓤 (sem 𝓤 H A Had) (sem 𝓤 H A Given-back)
         pub typed : Holds (hasTy (T′.mir (named 0)) (mach α d)) × WT (mach α d) → Holds (hasTy τ v) × WT v
 
-      module _ (q : Share) (right : Right) where
+      module _ (q : Share) (right : Right) (g : clauses (κ, tt) (d, tt) .ghost) where
         abbrev Post : Val → SProp 𝓤
-        Post = walkOf 𝓤 H A ended stayed clauses .post (((κ, tt), (q, tt), tt, (d, tt), (mach α d ∷ [], tt)), tt)
+        Post = walkOf 𝓤 H A ended stayed clauses .post (((κ, tt), (q, tt), tt, (d, tt), (mach α d ∷ [], tt)), g)
 
         exits : ent 𝓤 (onEntry 𝓤 H A (ended .signature) (κ, tt) (q, tt) (d, tt) (mach α d ∷ [], tt)) (Post v)
         exits =
             qed W ((‵ (flft κ q) ⊛ ‵ ftrue) ∷ ‵ (owns (B (κ, tt) ∷ []) (d, tt) (mach α d ∷ [], tt)) ∷ []) ∵
-            suffices ! _ (ends-at 𝓤 H A ended stayed clauses W (((κ, tt), (q, tt), tt, (d, tt), (mach α d ∷ [], tt)), tt) v (x (κ, tt) d) (tt, tt) (tt, tt)) $ says ! refl $
+            suffices ! _ (ends-at 𝓤 H A ended stayed clauses W (((κ, tt), (q, tt), tt, (d, tt), (mach α d ∷ [], tt)), g) v (x (κ, tt) d) (tt, tt) (tt, tt)) $ adds ! _ _ (right .said g) $
             frame ! $ fsplit ! $ use1 W (‵ Had ⊛ ‵ (Own α d)) (field α d 𝓤 H A W i) $ split ! $
             use1 W (‵ Given-back) (right .owned) $ move ! (1 ∷ 2 ∷ []) $ fjoin ! $ frame ! $ done !
 
@@ -115,8 +113,8 @@ module _ (R : Slot 1) (i : ℕ) (τ : Ty) (x : (κs : Lfts 1) → ImageRef → t
     walks C Λ at right =
         walked 𝓤 H A ended stayed clauses (WpFn 𝓤 H C Λ function) (λ κs. (LL.vals (T.the-type (namedLft 1 0 tt κs)) (T′.the-laws (namedLft 1 0 tt κs)), tt))
         (λ κs. (LL.tells (T.the-type (namedLft 1 0 tt κs)) (T′.the-laws (namedLft 1 0 tt κs)), tt))
-        (λ κs qs bounds a g are. via 𝓤 _ (fst∗ 𝓤 _ (emp 𝓤))
-        (walk (κs .0) (a .0) (qs .0) (right (κs .0) (a .0)) C Λ at (LL.lawful (T.the-type (namedLft 1 0 tt κs)) (T′.the-laws (namedLft 1 0 tt κs)) 𝓤 H A W .typed (a .0) _ (are .0) .0)))
+        (λ κs qs bounds a g are. via 𝓤 _ (fst∗ 𝓤 _ (clauses κs a .requires g))
+        (walk (κs .0) (a .0) (qs .0) (right (κs .0) (a .0)) g C Λ at (LL.lawful (T.the-type (namedLft 1 0 tt κs)) (T′.the-laws (namedLft 1 0 tt κs)) 𝓤 H A W .typed (a .0) _ (are .0) .0)))
 
     pub meets : (𝓣 : Tables 𝓤 H) {o : ℕ} → fieldOf (T′.mir (named 0)) i ≡ some (τ, o) → ((κ : Lft) (d : ImageRef) → Right κ d)
         → Meets 𝓤 H A (ended .signature) (WpFn 𝓤 H (𝓣 .C) (𝓣 .Λ) function) (closing 𝓤 H A ended clauses)

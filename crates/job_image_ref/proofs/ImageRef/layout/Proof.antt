@@ -9,6 +9,7 @@ use denote.Signature.{plain}
 use Rattle.pixels_layout.proofs.PixelLayout as E
 use Rattle.pixels_layout.proofs.PixelLayout.Laws as E′
 use Rattle.job_image_ref.proofs.Tag.{of-its-type}
+use Rattle.job_image_ref.proofs.Clauses.{last}
 use Rattle.job_image_ref.proofs.Getters.{meets}
 use Rattle.job_image_ref.proofs.ImageRef.layout.Key.{name as #image·layout}
 use Rattle.job_image_ref.proofs.ImageRef.layout as it
@@ -20,5 +21,5 @@ unfolding code.routine tablesOf
 layout-spec 𝓤 H 𝓜 𝓖 𝓡 =
     entered 𝓤 H (tripleOf 𝓤 H (𝓖 .A) it.signature (it.spec 𝓤 H (𝓖 .A) (𝓜 .mem) (𝓡 .run)))
     (tables 𝓤 H 𝓜 𝓡 code.env .C) (tables 𝓤 H 𝓜 𝓡 code.env .Λ) #image·layout code.function (code.unfolded 𝓤 H 𝓜 𝓡)
-    (meets (plain (λ _. E.the-row)) 1 E′.mir (λ κs d. d .layout) 𝓤 H (𝓖 .A) (givenOf 𝓤 H 𝓜 𝓖) (tablesOf 𝓤 H 𝓜 (tables 𝓤 H 𝓜 𝓡 code.env)) refl
-    (λ κ d. record { owned = id⊢ 𝓤 _; typed = λ wt. (of-its-type (d .layout), wt .1 .1 .0) }))
+    (meets (plain (λ _. E.the-row)) 1 E′.mir (λ κs d. d .layout) 𝓤 H (𝓖 .A) (givenOf 𝓤 H 𝓜 𝓖) (it.clauses 𝓤 H (𝓖 .A) (𝓜 .mem) (𝓡 .run))
+    (tablesOf 𝓤 H 𝓜 (tables 𝓤 H 𝓜 𝓡 code.env)) refl (λ κ d. record { said = λ g. last 𝓤 _ refl; owned = id⊢ 𝓤 _; typed = λ wt. (of-its-type (d .layout), wt .1 .1 .0) }))

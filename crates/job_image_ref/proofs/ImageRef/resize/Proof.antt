@@ -165,7 +165,8 @@ module _ {M : Type 1} (𝓤 : URA M) (H : Heap 𝓤) (A : Atoms 𝓤) (W : Given
         use1 W (later (some (λ (r : Flagged). ((‵ (flft κ q) ⊛ ‵ (flft κ′ q′) ⊛ ‵ (flft κ″ q″) ⊛ ‵ ftrue) ⊛ ‵ (F.the-row .own r (w ∷ []))) ⊛ raw (ensured 𝓤 H A callee.ended (callee.clauses 𝓤 H A mem run) κs all tt r)))) (id⊢ 𝓤 _) $ await ! tt $ pick ! (λ r.
         -- what the callee ensures, at some last lists
         split ! $ move ! (1 ∷ []) $ use1 W
-        (some (λ (zs : Unit {0} × (Unit {0} × (Unit {0} × (Unit {0} × (List ℕ × (List ℕ × Unit {0})))))). ‵ (lasts callee.ended κs all zs) ⊛ (raw (fact 𝓤 (Number r)) ⊛ (raw (fact 𝓤 (Flag r)) ⊛ (raw (fact 𝓤 (Out (zs .1 .1 .1 .1 .0))) ⊛ raw (fact 𝓤 (Work (zs .1 .1 .1 .1 .1 .0)))))))) (id⊢ 𝓤 _) $ pick ! (λ zs.
+        (some (λ (zs : Unit {0} × (Unit {0} × (Unit {0} × (Unit {0} × (List ℕ × (List ℕ × Unit {0})))))). ‵ (lasts callee.ended κs all zs)
+        ⊛ (raw (fact 𝓤 (Number r)) ⊛ (raw (fact 𝓤 (Flag r)) ⊛ (raw (fact 𝓤 (Out (zs .1 .1 .1 .1 .0))) ⊛ raw (fact 𝓤 (Work (zs .1 .1 .1 .1 .1 .0)))))))) (id⊢ 𝓤 _) $ pick ! (λ zs.
         split ! $ move ! (1 ∷ []) $ split ! $ heard ! (Number r) (λ e. split ! $ heard ! (Flag r) (λ f. split ! $ heard ! (Out (zs .1 .1 .1 .1 .0)) (λ g. heard ! (Work (zs .1 .1 .1 .1 .1 .0)) (λ h.
         fsplit ! $ move ! (1 ∷ []) $ fsplit ! $ move ! (1 ∷ []) $ fsplit ! $ move ! (1 ∷ []) $ fsplit ! $ move ! (1 ∷ []) $ fsplit ! $ fsplit ! $ move ! (1 ∷ []) $ feqL ! (λ len. move ! (1 ∷ []) $ fsplit ! $ fsplit ! $ move ! (1 ∷ []) $ feqL ! (λ long.
         -- [work's last list; true; out's last list; four of no matter; the tokens and the result; true; what the struct owns; _11; …]
