@@ -36,7 +36,7 @@ pub fn flag_word(flag: bool) -> u32
 }
 
 // Stores an answer in lent words, from the first on; fewer words than it has stay as they were.
-// Rules out: an answer cut short; a word after the answer's last touched.
+// Rules out: the answer's first word not stored; the answer stored in the last words lent; exactly as many words as it has refused.
 pub fn store(answer: &[u32], words: &mut [u32])
     ensures { λ _. ⌜ now (words .exit) ≡ stored (now (answer .entry)) (now (words .entry)) ⌝ }
 {

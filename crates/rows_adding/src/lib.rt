@@ -40,7 +40,7 @@ fn check_add(target_width: u32, room: usize) -> Checked
 }
 
 // The second half added to the first, modulo 2^32; the second stays.
-// Rules out: a sum that saturates; the last value left out; the sum put into the second half.
+// Rules out: a sum that saturates; a row rounded before it is added; the first value left out; three lanes added; 5 told before 1.
 pub fn add_halves(target_width: u32, work: &mut [u32]) -> Checked
     ensures number { λ r. ⌜ checkedNumber r ≡ addNumber «target_width» (length (now (work .entry))) ⌝ }
     ensures work { λ _. ⌜ now (work .exit) ≡ addWork «target_width» (now (work .entry)) ⌝ }

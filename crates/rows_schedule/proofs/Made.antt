@@ -70,7 +70,7 @@ made-le h g u (suc n) p =
     let e : suc n + u ≡ suc (n + u) = omega arith in
     rw e (omega (arith, made-le h g u n p, made-mono h g (n + u) p))
 
--- a height that does not grow: at most one row for each crop row
+-- a height that does not grow: at most one row for each crop row; for the bands of request 9 of document 02
 pub made-step : (h g u : ℕ) → 0 < h → g ≤ h → made h g (suc u) ≤ suc (made h g u)
 made-step h g u p l =
     rw (made-down h g u l, made-down h g (suc u) l)
