@@ -1,4 +1,4 @@
-/* Calls every function of include/jonquilsaw.h: document 01's trials, each refusal in its order, and that a refused call leaves every buffer as it was.
+/* Calls every function of include/jonquilsaw.h: the trials of docs/SCOPE.md, each refusal in its order, and that a refused call leaves every buffer as it was.
  * Every buffer is lent with a page behind it that cannot be touched, since the sanitizers look at this file only. Prints one line. */
 #define _DEFAULT_SOURCE
 #include "jonquilsaw.h"

@@ -35,7 +35,19 @@ fn installed() -> Option<PathBuf> {
         |word: &str| Command::new(&pkg_config).args([word, "jonquilsaw"]).stderr(Stdio::null()).output().ok().filter(|out| out.status.success());
     ask(&version)?;
     let folder = PathBuf::from(String::from_utf8(ask("--variable=libdir")?.stdout).ok()?.trim());
-    folder.join(ARCHIVE).is_file().then_some(folder)
+    if !folder.join(ARCHIVE).is_file() {
+        return None;
+    }
+    if root().is_some() {
+        warn(&format!("links the installed {ARCHIVE} in {}, and not the repository's; JONQUILSAW_LIB_DIR names another", folder.display()));
+    }
+    Some(folder)
+}
+
+/// The repository, if this crate stands in it.
+fn root() -> Option<PathBuf> {
+    let root = PathBuf::from(env::var_os("CARGO_MANIFEST_DIR").expect("cargo says where the crate is")).join("../..");
+    root.join("archive").is_file().then_some(root)
 }
 
 /// Whether the Rattle kit is at hand.
@@ -56,12 +68,9 @@ fn make(root: &Path) -> bool {
     made.wait().is_ok_and(|status| status.success())
 }
 
-/// The repository's folder, if this crate stands in it.
+/// The repository's folder, with the library made there.
 fn repository() -> Option<PathBuf> {
-    let root = PathBuf::from(env::var_os("CARGO_MANIFEST_DIR").expect("cargo says where the crate is")).join("../..");
-    if !root.join("archive").is_file() {
-        return None;
-    }
+    let root = root()?;
     for source in ["archive", "build", "crates", "crates.txt", "target/staticlib"] {
         println!("cargo::rerun-if-changed={}", root.join(source).display());
     }

@@ -415,7 +415,7 @@ mod tests {
         assert_eq!(size(1, 2).scaled(0, 32769), Err(Error::InvalidDimensions { side: Side::Width, value: 16385 }));
     }
 
-    // Document 01's trials.
+    // The trials of docs/SCOPE.md.
     #[test]
     fn trials() {
         let greys = |image: &Image| image.as_bytes().chunks(4).map(|p| p[0]).collect::<Vec<_>>();
