@@ -144,7 +144,9 @@ impl fmt::Display for Error {
         match self {
             Self::InvalidDimensions { side, value } => write!(f, "{side} is {value}: a side is 1 to {MAX_DIMENSION}"),
             Self::CropOutOfBounds { side, edge, limit } => write!(f, "{side} reaches to {edge}, and the picture ends at {limit}"),
-            Self::PixelBufferMismatch { expected, found } => write!(f, "the picture has {found} bytes where {expected} fit its size"),
+            Self::PixelBufferMismatch { expected, found } => {
+                write!(f, "there are {found} bytes where {expected} fit, or for an offer a multiple of it")
+            }
             Self::OutputLength { expected, found } => write!(f, "the output buffer has {found} bytes and not {expected}"),
             Self::WorkLength { expected, found } => write!(f, "there are {found} work values and not {expected}"),
             Self::InvalidRecord => f.write_str("no job can have this record"),
@@ -216,7 +218,7 @@ mod tests {
             (Rect::new(0, 0, 3, 0).fits(size).unwrap_err(), "the crop's height is 0: a side is 1 to 16384"),
             (Rect::new(u32::MAX, 0, 1, 1).fits(size).unwrap_err(), "the crop's width reaches to 4294967296, and the picture ends at 5"),
             (Rect::new(0, 1, 5, 4).fits(size).unwrap_err(), "the crop's height reaches to 5, and the picture ends at 4"),
-            (Error::of(3, given()), "the picture has 7 bytes where 8 fit its size"),
+            (Error::of(3, given()), "there are 7 bytes where 8 fit, or for an offer a multiple of it"),
             (Error::of(4, given()), "the output buffer has 5 bytes and not 4"),
             (Error::of(5, given()), "there are 3 work values and not 16"),
         ] {

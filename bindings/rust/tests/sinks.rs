@@ -115,7 +115,9 @@ fn a_sink_that_takes_nothing_is_an_error_and_an_interrupted_one_is_asked_again()
     assert_eq!(none.write(&PICTURE[..4]).unwrap(), 4);
     assert_eq!(none.flush().unwrap_err().kind(), ErrorKind::WriteZero);
     let mut again = writer(Told::once([Do::Fail(ErrorKind::Interrupted), Do::Take(1), Do::Fail(ErrorKind::Interrupted)]));
-    again.write_all(&PICTURE).unwrap();
+    assert_eq!(again.write(&PICTURE[..4]).unwrap(), 4);
+    again.flush().unwrap(); // no error was kept
+    again.write_all(&PICTURE[4..]).unwrap();
     assert_eq!(again.finish().unwrap().0.got, PICTURE);
 }
 
