@@ -1,7 +1,7 @@
 /* The port as the oracle's driver (ours.c) calls it. One adapter file implements these over the port's own C boundary;
  * only that file knows its header.
  *
- * Every function returns document 01's number, 0 for success.
+ * Every function returns SCOPE's number, 0 for success.
  * A slice is a pointer and a count of elements (bytes for pixels and output, words for work values).
  * Layout 0 is Rgba8, 1 Argb8, 2 Bgra8. A flag is 0 or 1. Flags, sizes and counts are written on success only. */
 #ifndef OURS_H

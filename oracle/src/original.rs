@@ -36,7 +36,7 @@ impl Whole {
     }
 }
 
-/// The original's crop and then resize, or its error's number. It is asked in document 01's order.
+/// The original's crop and then resize, or its error's number. It is asked in SCOPE's order.
 pub fn cropped(s: &Sizes, pixels: Vec<u8>, target: bool) -> Result<Image, u32> {
     let number = |e: error::Error| e as u32;
     let dims = Dimensions::new(s.w, s.h).map_err(number)?;
@@ -398,7 +398,7 @@ impl Rows {
             let scaler = self.loaded();
             scaler.export_at(0);
             if scaler.dst() != stated && (natural || !beyond) {
-                self.line = "! the original's export and document 01's formula differ".into();
+                self.line = "! the original's export and SCOPE's formula differ".into();
                 return;
             }
             row = restored(s.layout, &stated, rust_restore);

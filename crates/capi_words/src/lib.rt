@@ -8,7 +8,7 @@ ghost use Rattle.capi_words.specs.Boundary.{misused};
 // Layouts are numbered from 0 in the order of PixelLayout.
 pub const LAYOUTS: u32 = 3;
 
-// Above every number of documents 01 and 02: a layout argument that is none, or an answer slice that is too short.
+// Above every number of SCOPE: a layout argument that is none, or an answer slice that is too short.
 pub const BOUNDARY: u32 = 100;
 
 // ---- words

@@ -1,4 +1,4 @@
--- The two starred trials of document 01 that speak of any pixel. "1 by 1 to 1 by 2: all 0": the span is 1, so the factor wrapped to 0. "Opaque 1 by 1 to 2 by 1: the
+-- The two starred trials of SCOPE that speak of any pixel. "1 by 1 to 1 by 2: all 0": the span is 1, so the factor wrapped to 0. "Opaque 1 by 1 to 2 by 1: the
 -- pixel twice": both columns have the pixel's lanes, and an opaque pixel passes matte and restore unchanged. Both are ends in
 -- themselves. Assumes nothing.
 use Prim.Native.Nat.{ℕ, zero, suc, _+_, _*_, _/_, _%_, _^_, _≤_, _<_}

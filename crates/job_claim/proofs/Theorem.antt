@@ -63,7 +63,7 @@ module _ (p : Plan) (s : Seen) (work : List ℕ) (v : Inv p s work) where
     rows-are : R p (s .accepted) ≤ s .taken → s .accepted < p .source .height → offerRows r rows lent ≡ count (jobAt p s) (length rows)
     rows-are a l = went a l .some
 
--- ---- the count, in document 01's words
+-- ---- the count, in SCOPE's words
 module _ (j : Job) (n : ℕ) (whole : WholeRows (j .plan) n) (quiet : R (j .plan) (j .accepted) ≤ j .taken) (remain : j .accepted < j .plan .source .height) where
   count-smallest : Smallest (j .plan) (j .accepted) (j .taken) (lentRows (j .plan) n) (j .plan .source .height - j .accepted) (count j n)
   count-smallest = record {

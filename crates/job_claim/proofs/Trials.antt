@@ -1,4 +1,4 @@
--- The starred trials of document 01 hold, all together and in every layout: by computing. An end in itself. Assumes nothing.
+-- The starred trials of SCOPE hold, all together and in every layout: by computing. An end in itself. Assumes nothing.
 use mathlib.Core.Path.{refl}
 use Rattle.arithmetic.specs.Quotient.{ceil}
 use Rattle.arithmetic.specs.FixedPoint.{MULT, FLOOR, FRAC}

@@ -1,4 +1,4 @@
--- The rows of a job are the rows of crop then resize (document 01, "The job": "`resize` is a job with the full crop"). Why: byte z of row c of the cropped
+-- The rows of a job are the rows of crop then resize (SCOPE, "The job": "`resize` is a job with the full crop"). Why: byte z of row c of the cropped
 -- picture is the source's byte of that place counted from the crop's corner, so both have the same matted bytes; and the closed form of an output row
 -- reads no row or column beyond the crop. Assumes nothing.
 use Prim.Native.Nat.{ℕ, zero, suc, _+_, _-_, _*_, _/_, _%_, _≤_, _<_}

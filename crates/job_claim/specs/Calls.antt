@@ -1,4 +1,4 @@
--- A list of calls from a fresh job, and what is counted from the calls and their answers, never read from the record (document 01, "The list of demand 3").
+-- A list of calls from a fresh job, and what is counted from the calls and their answers, never read from the record (SCOPE, "The list of demand 3").
 -- The answers are the definitions that stand in the contracts of start, offer and take. Assumes nothing.
 use Prim.Native.Nat.{ℕ, _+_, _*_}
 use mathlib.Core.Bool.{Bool, false, cond}

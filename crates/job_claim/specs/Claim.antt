@@ -1,4 +1,4 @@
--- DEMAND 3: one claim about every list of calls, to be read beside document 01, "The list of demand 3". proofs/Theorem.antt proves it. Assumes nothing.
+-- DEMAND 3: one claim about every list of calls, to be read beside SCOPE, "The list of demand 3". proofs/Theorem.antt proves it. Assumes nothing.
 use Prim.Native.Nat.{ℕ, zero, suc, _+_, _*_, _-_, _/_, _%_, _≤_, _<_, min}
 use mathlib.Core.Path.{_≡_}
 use mathlib.Core.Logic.{_⊎_}
@@ -63,7 +63,7 @@ exactOf p r k j y =
 abbrev pub totalOf : Plan → ℕ
 totalOf p = total (p .crop .width) (p .target .width) (p .crop .height) (p .target .height)
 
--- document 01's bound on span and heights
+-- SCOPE's bound on span and heights
 abbrev pub Bounded : Plan → Type 0
 Bounded p = Premise (span (p .crop .width) (p .target .width)) (p .crop .height) (p .target .height)
 

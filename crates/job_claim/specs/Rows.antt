@@ -1,5 +1,5 @@
--- The rows of a preview as closed expressions of the source's bytes, b i being byte i (document 01, "A row comes in", "A row goes out" and "The list of demand 3").
--- No call, no record and no work value is mentioned. Assumes nothing.
+-- The rows of a preview as closed expressions of the source's bytes, b i being byte i (SCOPE, "A row comes in", "A row goes out", "The list of demand 3", "The job" and
+-- "Lanes"). No call, no record and no work value is mentioned. Assumes nothing.
 use Prim.Native.Nat.{ℕ, zero, suc, _+_, _*_, _/_, _%_}
 use mathlib.Core.Bool.{Bool, false}
 use mathlib.Core.List.{List, [], _∷_, _++_}

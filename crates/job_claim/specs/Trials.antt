@@ -1,4 +1,4 @@
--- The starred trials of document 01, "Trials", as one table: what the definitions give beside what the document says. The definitions are those
+-- The starred trials of SCOPE, "Trials", as one table: what the definitions give beside what the document says. The definitions are those
 -- that the contracts of resize, mult_argb, scaled and rows_by cite. The table is there for every layout. proofs/Trials.antt proves all rows together,
 -- proofs/AnyPixel.antt the two that speak of any pixel for every pixel. Assumes nothing.
 use Prim.Native.Nat.{ℕ, _<_}

@@ -1,4 +1,4 @@
-// A borrowed picture (document 01, "Lanes": "A borrowed picture, as `ImageRef`, holds size, layout and pixels"; the Rust: ImageRef of image.rs).
+// A borrowed picture (SCOPE, "Lanes": "A borrowed picture, as `ImageRef`, holds size, layout and pixels"; the Rust: ImageRef of image.rs).
 // Each function over it takes it apart and calls a function of plain parameters, which does the work.
 use job_resize::resize;
 use pixels::Checked;

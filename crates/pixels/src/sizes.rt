@@ -1,4 +1,4 @@
-// Sizes (document 01, "Beside the job" and numbers 1 and 2 of "Why a call is turned away"; the Rust: Dimensions and Rect).
+// Sizes (SCOPE, "Beside the job" and numbers 1 and 2 of "Why a call is turned away"; the Rust: Dimensions and Rect).
 use crate::Dimensions;
 use crate::MAX_DIMENSION;
 use crate::Rect;

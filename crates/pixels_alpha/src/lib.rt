@@ -1,4 +1,4 @@
-// The alpha of whole pictures (document 01, "Lanes" and "Beside the job"; the Rust: Image::new's flag and Image::apply_alpha_plane).
+// The alpha of whole pictures (SCOPE, "Lanes" and "Beside the job"; the Rust: Image::new's flag and Image::apply_alpha_plane).
 use pixels::Checked;
 use pixels::Dimensions;
 use pixels::Flagged;

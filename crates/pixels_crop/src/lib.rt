@@ -1,4 +1,4 @@
-// The crop (document 01, "Lanes" and "Beside the job"; the Rust: crop of geometry.rs): the window of a row, and whole pictures.
+// The crop (SCOPE, "Lanes" and "Beside the job"; the Rust: crop of geometry.rs): the window of a row, and whole pictures.
 use pixels::Checked;
 use pixels::Dimensions;
 use pixels::Flagged;

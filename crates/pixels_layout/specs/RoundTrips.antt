@@ -1,4 +1,4 @@
--- Packing and unpacking undo each other (document 01, "Lanes"): the round trips of what the contracts of pack, unpack, pack_pixels and unpack_pixels cite.
+-- Packing and unpacking undo each other (SCOPE, "Lanes"): the round trips of what the contracts of pack, unpack, pack_pixels and unpack_pixels cite.
 -- proofs/Packing.antt proves all four. Assumes nothing.
 use Prim.Native.Nat.{ℕ, _%_, _^_, _≤_, _<_}
 use mathlib.Core.Path.{_≡_}

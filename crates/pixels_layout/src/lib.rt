@@ -1,4 +1,4 @@
-// Layouts (document 01, "Lanes"; the Rust: PixelLayout).
+// Layouts (SCOPE, "Lanes"; the Rust: PixelLayout).
 ghost use mathlib.Core.Path.{_≡_};
 ghost use Prim.Native.Nat.{_+_, _*_, _^_, _<_};
 ghost use Rattle.arithmetic.specs.Matte.{laneOf};

@@ -1,4 +1,4 @@
-// Packing and unpacking slices of pixels (document 01, "Lanes"; the Rust: pack_pixels, unpack_pixels, argb_has_alpha).
+// Packing and unpacking slices of pixels (SCOPE, "Lanes"; the Rust: pack_pixels, unpack_pixels, argb_has_alpha).
 use pixels::Checked;
 use pixels::PIXEL_LANES;
 use pixels::Refusal;

@@ -1,4 +1,4 @@
-// A row comes in (document 01; the Rust: Rescaler::import_row of geometry.rs): matted as its bytes are read, the four lanes at once. Work values wrap.
+// A row comes in (SCOPE; the Rust: Rescaler::import_row of geometry.rs): matted as its bytes are read, the four lanes at once. Work values wrap.
 use arithmetic::frac;
 use arithmetic::matte;
 use arithmetic::mult_fix;

@@ -1,4 +1,4 @@
--- The distance law (document 01, "Exact mean"): under the premise every scaled byte is less than two levels off the exact mean over the whole crop.
+-- The distance law (SCOPE, "Exact mean"): under the premise every scaled byte is less than two levels off the exact mean over the whole crop.
 -- Why: one row's value is close to the exact sum of its pixels (Columns), and the byte made of such values is near their mean, whether the height
 -- shrinks (HeightShrinks) or grows (HeightGrows). Assumes nothing.
 use Prim.Native.Nat.{ℕ, _*_, _≤_, _<_}

@@ -92,7 +92,7 @@ factor-half (suc (suc n)) ne =
     let more : 2 < suc (suc n) = omega arith in
     rw (frac-exact 1 (suc (suc n)) (omega arith)) (div-bound (suc (suc n)) (omega arith) (omega arith))
 
--- ---- g ≤ h: what the loops write is what document 01 says
+-- ---- g ≤ h: what the loops write is what SCOPE says
 module _ (s : Scale) (u y : ℕ) (work : List ℕ) (down : s .g ≤ s .h) where
   abbrev d : ℕ
   d = restDown (s .h) (s .g) u y

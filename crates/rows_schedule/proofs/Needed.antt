@@ -64,7 +64,7 @@ makes h g u y p q l n = by u n (form h g p)
 pub made-of-needed : (h g u y : ℕ) → 0 < h → y < g → needed h g y ≤ u → y < made h g u
 made-of-needed h g u y p l n = makes h g u y p (omega arith) (λ e m. l) n
 
--- ---- the least such number; for the bands of request 9 of document 02
+-- ---- the least such number; for the bands of request 9 (SCOPE)
 pub needed-makes : (h g y : ℕ) → 0 < h → y < g → y < made h g (needed h g y)
 needed-makes h g y p l = made-of-needed h g (needed h g y) y p l (omega arith)
 

@@ -1,5 +1,5 @@
-// Runs the trials of document 01 that are not proved, the edges of fixed point, matte and restore, and one job offered in three ways. The file `stdout` holds
-// what document 01 says: numbers in hexadecimal; pixels too, byte after byte; a size as width and height.
+// Runs the trials of SCOPE that are not proved, the edges of fixed point, matte and restore, and one job offered in three ways. The file `stdout` holds
+// what SCOPE says: numbers in hexadecimal; pixels too, byte after byte; a size as width and height.
 use job::Job;
 use job::Offered;
 use job::Started;

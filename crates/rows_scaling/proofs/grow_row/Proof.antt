@@ -1,4 +1,4 @@
--- `grow_row` meets its contract: d is in its range, so it fits; each half lies in the work rows, and the loops' b and factor are document 01's. Assumes nothing.
+-- `grow_row` meets its contract: d is in its range, so it fits; each half lies in the work rows, and the loops' b and factor are SCOPE's. Assumes nothing.
 use Rattle.rows_scaling.proofs.Factors.{factor-half, grow-room, grow-out, level-out}
 use Rattle.rows_scaling.proofs.RestRange.{up-some, up-low, up-high}
 use Rattle.rows_scaling.specs.Scaling.{scaleIn}

@@ -1,4 +1,4 @@
--- `shrink_row` meets its contract: the loops' step and ratio are document 01's factors. Assumes nothing.
+-- `shrink_row` meets its contract: the loops' step and ratio are SCOPE's factors. Assumes nothing.
 use mathlib.Core.Path.{sym, _∙_}
 use native.Mathlib.Omega.{arith}
 use borrow.Author.Needs.{needs}
