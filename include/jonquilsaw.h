@@ -196,7 +196,7 @@ static inline uint32_t jonquilsaw_size_scaled(jonquilsaw_size size, uint32_t tar
 /* jonquilsaw_start. */
 static inline uint32_t jonquilsaw_job_start(jonquilsaw_job *job, const jonquilsaw_plan *plan,
                                             uint32_t *work, size_t work_count) {
-    return jonquilsaw_start(plan->source.width, plan->source.height, (uint32_t)plan->layout,
+    return jonquilsaw_start(plan->source.width, plan->source.height, plan->layout,
                             plan->crop.x, plan->crop.y, plan->crop.width, plan->crop.height,
                             plan->target.width, plan->target.height, work, work_count, job->words,
                             JONQUILSAW_RECORD_WORDS);
@@ -226,7 +226,7 @@ static inline uint32_t jonquilsaw_picture_crop(jonquilsaw_size source, jonquilsa
                                                const uint8_t *pixels, size_t pixels_count,
                                                jonquilsaw_rect crop, uint8_t *out, size_t out_count,
                                                uint32_t *flag) {
-    return jonquilsaw_crop(source.width, source.height, (uint32_t)layout, crop.x, crop.y, crop.width,
+    return jonquilsaw_crop(source.width, source.height, layout, crop.x, crop.y, crop.width,
                            crop.height, pixels, pixels_count, out, out_count, flag, 1);
 }
 
@@ -236,7 +236,7 @@ static inline uint32_t jonquilsaw_picture_resize(jonquilsaw_size source, jonquil
                                                  jonquilsaw_size target, uint8_t *out,
                                                  size_t out_count, uint32_t *work, size_t work_count,
                                                  uint32_t *flag) {
-    return jonquilsaw_resize(source.width, source.height, (uint32_t)layout, target.width,
+    return jonquilsaw_resize(source.width, source.height, layout, target.width,
                              target.height, pixels, pixels_count, out, out_count, work, work_count,
                              flag, 1);
 }
