@@ -90,10 +90,6 @@ module _ (source : Dimensions) (crop : Rect) (target : Dimensions) (pixels : Lis
       ∙ parts-byte n (omega arith) c z m u)
       (eq-or-lt-of-le (le-of-suc-le-suc l))
 
-  pub cropped-length : length (cropped source crop pixels) ≡ pictureBytes pixelLanes (crop .width) (crop .height)
-  unfolding cropped
-  cropped-length = parts-length (crop .height) (omega arith)
-
   pub cropped-byte : (c z : ℕ) → c < crop .height → z < rowBytes pixelLanes (crop .width)
       → getD (cropped source crop pixels) (rowBytes pixelLanes (crop .width) * c + z) 0 ≡ getD pixels (rowBytes pixelLanes (source .width) * (crop .y + c) + (rowBytes pixelLanes (crop .x) + z)) 0
   unfolding cropped
