@@ -79,7 +79,7 @@ pub fn check_rules(p: Plan, accepted: u32, taken: u32, flag: bool) -> bool
 
 // ---- the tests of each call, in their order
 
-// Those of a start. Rules out: every start refused; work values for one half alone; 5 told before 1 or 2.
+// Those of a start. Rules out: every start refused; work values for one half alone; 5 told where 1 or 2 is owed.
 pub fn check_start(p: Plan, work: usize) -> Checked
     ensures { λ r. ⌜ checkedNumber r ≡ startNumber p work ⌝ }
 {
@@ -96,7 +96,7 @@ pub fn check_start(p: Plan, work: usize) -> Checked
     Checked::Fit
 }
 
-// Those of an offer, of the bytes lent and the work values. Rules out: every offer of rows refused; 8 told before 7; 8 told once as many rows as the crop has are
+// Those of an offer, of the bytes lent and the work values. Rules out: every offer of rows refused; 7 and 8 exchanged; 8 told once as many rows as the crop has are
 // accepted.
 pub fn check_offer(
     p: Plan,
