@@ -1,19 +1,18 @@
 /* Jonquilsaw: a picture scaler that takes source rows as they arrive and hands out preview rows as
- * they become ready. It allocates nothing: every buffer is lent by the caller. The bytes are
- * those of webpkit's rescaler; docs/DIFFERENCES.md says where libwebp's are others.
+ * they become ready. It allocates nothing: every buffer is lent by the caller. The bytes are those
+ * of webpkit's rescaler; docs/DIFFERENCES.md says where libwebp's are others.
  *
- * * Every function returns 0 where the call was accepted and else a number that says why not:
- * see jonquilsaw_number. A refused call leaves every buffer as it was.
+ * Every function returns 0 where the call was accepted and else a number that says why not: see
+ * jonquilsaw_number. A refused call leaves every buffer as it was.
  *
- * * A slice is a pointer and a count of its elements. The pointer must be that of live memory
- * for so many elements, aligned for their type; with a count of 0 it may be null. Two slices of
- * one call must not overlap unless both are const. Pixels are 4 bytes each, rows stand one after
- * another without gaps, and colours are not premultiplied by alpha. Nothing is kept between
- * calls but what stands in the record and the work values, so calls with other memory may run at
- * the same time.
+ * A slice is a pointer and a count of its elements. The pointer must be that of live memory for so
+ * many elements, aligned for their type; with a count of 0 it may be null. Two slices of one call
+ * must not overlap unless both are const. Pixels are 4 bytes each, rows stand one after another
+ * without gaps, and colours are not premultiplied by alpha. Nothing is kept between calls but what
+ * stands in the record and the work values, so calls with other memory may run at the same time.
  *
- * * First come the proved functions, which libjonquilsaw.a has; then functions of the header's
- * own over them, in which a size, a crop and a job have types. */
+ * First come the proved functions, which libjonquilsaw.a has; then functions of the header's own
+ * over them, in which a size, a crop and a job have types. */
 #ifndef JONQUILSAW_H
 #define JONQUILSAW_H
 
