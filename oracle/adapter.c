@@ -1,5 +1,5 @@
 /* The port's C boundary (include/jonquilsaw.h) behind what ours.c calls. Answers have room for exactly the words that the
- * boundary writes; pack and unpack are not in it. */
+ * boundary writes. */
 #include "ours.h"
 
 #include "jonquilsaw.h"
@@ -54,11 +54,10 @@ uint32_t ours_scaled(uint32_t w, uint32_t h, uint32_t tw, uint32_t th, uint32_t*
 }
 
 uint32_t ours_unpack(uint32_t layout, const uint8_t* bytes, size_t len, uint32_t* out, size_t out_len) {
-  (void)layout, (void)bytes, (void)len, (void)out, (void)out_len;
-  return OURS_ABSENT;
+  return jonquilsaw_unpack_pixels(layout, bytes, len, out, out_len);
 }
 
-uint32_t ours_pack(uint32_t layout, const uint32_t* argb, size_t count, uint8_t* out, size_t out_len) {
-  (void)layout, (void)argb, (void)count, (void)out, (void)out_len;
-  return OURS_ABSENT;
+uint32_t ours_pack(uint32_t layout, const uint32_t* argb, size_t count, uint8_t* out, size_t out_len, uint32_t* flag) {
+  const uint32_t told = jonquilsaw_argb_has_alpha(argb, count, flag, 1);
+  return told != 0 ? told : jonquilsaw_pack_pixels(layout, argb, count, out, out_len);
 }

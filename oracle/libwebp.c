@@ -4,7 +4,7 @@
  *   ./libwebp version
  *
  * Asked: resize and job (WebPPictureCrop, then WebPPictureRescale, use_argb), crop (WebPPictureCrop), scaled (the size that
- * WebPPictureRescale makes of a 0), each only where document 01 accepts the call. The answer has the first three words only:
+ * WebPPictureRescale makes of a 0), each only where SCOPE accepts the call. The answer has the first three words only:
  * number, flag and bytes. Every other job gets "-". */
 #include <stdint.h>
 #include <stdio.h>
@@ -46,7 +46,7 @@ static void answer(const WebPPicture* pic, int layout) {
   free(out);
 }
 
-/* Crop, then rescale where tw is not 0; "-" where document 01 refuses, "!" where libwebp does. */
+/* Crop, then rescale where tw is not 0; "-" where SCOPE refuses, "!" where libwebp does. */
 static void scale(const uint64_t* s, uint64_t tw, uint64_t th, uint64_t pixels, uint64_t pattern, uint64_t seed) {
   const uint64_t w = s[1], h = s[2], x = s[3], y = s[4], cw = s[5], ch = s[6];
   const int target = tw != 0 || th != 0;

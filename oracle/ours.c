@@ -82,8 +82,7 @@ static void resize(const uint64_t* v) {
   uint32_t flag = 0;
   keep(&px);
   const uint32_t n = ours_resize(v[0], v[1], v[2], v[3], v[4], px.at, px.n, out.at, out.n, (uint32_t*)work.at, v[7], &flag);
-  if (n == OURS_ABSENT) puts("-");
-  else whole(n, flag, &out, &work, intact(&px) & intact(&out) & intact(&work));
+  whole(n, flag, &out, &work, intact(&px) & intact(&out) & intact(&work));
   give_back(px), give_back(out), give_back(work);
 }
 
@@ -92,8 +91,7 @@ static void crop(const uint64_t* v) {
   uint32_t flag = 0;
   keep(&px);
   const uint32_t n = ours_crop(v[0], v[1], v[2], v[3], v[4], v[5], v[6], px.at, px.n, out.at, out.n, &flag);
-  if (n == OURS_ABSENT) puts("-");
-  else whole(n, flag, &out, NULL, intact(&px) & intact(&out));
+  whole(n, flag, &out, NULL, intact(&px) & intact(&out));
   give_back(px), give_back(out);
 }
 
@@ -103,8 +101,7 @@ static void plane(const uint64_t* v) {
   make_plane((uint32_t)v[5], (uint32_t)v[6], alpha.at, alpha.n);
   keep(&alpha);
   const uint32_t n = ours_apply_alpha_plane(v[0], v[1], v[2], px.at, px.n, alpha.at, alpha.n, &flag);
-  if (n == OURS_ABSENT) puts("-");
-  else whole(n, flag, &px, NULL, intact(&px) & intact(&alpha));
+  whole(n, flag, &px, NULL, intact(&px) & intact(&alpha));
   give_back(px), give_back(alpha);
 }
 
@@ -113,8 +110,7 @@ static void has_alpha(const uint64_t* v) {
   uint32_t flag = 0;
   keep(&px);
   const uint32_t n = ours_has_alpha(v[0], v[1], v[2], px.at, px.n, &flag);
-  if (n == OURS_ABSENT) puts("-");
-  else whole(n, flag, NULL, NULL, intact(&px));
+  whole(n, flag, NULL, NULL, intact(&px));
   give_back(px);
 }
 
@@ -122,25 +118,23 @@ static void unpack_all(const uint64_t* v) {
   Buffer px = lend_pixels((uint32_t)v[0], v[3], v[4], v[1]), out = lend_words(v[2]);
   keep(&px);
   const uint32_t n = ours_unpack(v[0], px.at, px.n, (uint32_t*)out.at, v[2]);
-  if (n == OURS_ABSENT) puts("-");
-  else whole(n, 0, &out, NULL, intact(&px) & intact(&out));
+  whole(n, 0, &out, NULL, intact(&px) & intact(&out));
   give_back(px), give_back(out);
 }
 
 static void pack_all(const uint64_t* v) {
   Buffer argb = lend_pixels(2, v[3], v[4], 4 * v[1]), out = lend_out(v[2]);
+  uint32_t flag = 0;
   keep(&argb);
-  const uint32_t n = ours_pack(v[0], (const uint32_t*)argb.at, v[1], out.at, out.n);
-  if (n == OURS_ABSENT) puts("-");
-  else whole(n, 0, &out, NULL, intact(&argb) & intact(&out));
+  const uint32_t n = ours_pack(v[0], (const uint32_t*)argb.at, v[1], out.at, out.n, &flag);
+  whole(n, flag, &out, NULL, intact(&argb) & intact(&out));
   give_back(argb), give_back(out);
 }
 
 static void scaled(const uint64_t* v) {
   uint32_t w = 0, h = 0;
   const uint32_t n = ours_scaled(v[0], v[1], v[2], v[3], &w, &h);
-  if (n == OURS_ABSENT) puts("-");
-  else printf("%u %u %u\n", n, n == 0 ? w : 0, n == 0 ? h : 0);
+  printf("%u %u %u\n", n, n == 0 ? w : 0, n == 0 ? h : 0);
 }
 
 static void put_record(const uint32_t* r, const Buffer* work) {
@@ -158,11 +152,6 @@ static void job(const uint64_t* v, char* at) {
   const size_t work_len = v[9];
   Buffer work = lend_words(work_len);
   const uint32_t started = ours_start(r, (uint32_t*)work.at, work_len);
-  if (started == OURS_ABSENT) {
-    puts("-");
-    give_back(work);
-    return;
-  }
   printf("%u %016llx", started, (unsigned long long)fnv_words(&work));
   if (started != 0) {
     printf(" %d\n", give_back(work));

@@ -1,16 +1,13 @@
 /* The port as the oracle's driver (ours.c) calls it. One adapter file implements these over the port's own C boundary;
  * only that file knows its header.
  *
- * Every function returns document 01's number, 0 for success, or OURS_ABSENT where the boundary has no such function: the
- * driver then answers "-" and the comparison says what it left out.
+ * Every function returns SCOPE's number, 0 for success.
  * A slice is a pointer and a count of elements (bytes for pixels and output, words for work values).
  * Layout 0 is Rgba8, 1 Argb8, 2 Bgra8. A flag is 0 or 1. Flags, sizes and counts are written on success only. */
 #ifndef OURS_H
 #define OURS_H
 #include <stddef.h>
 #include <stdint.h>
-
-#define OURS_ABSENT 0xffffffffu
 
 /* Source width, source height, layout, crop x, y, width, height, target width, target height, rows accepted, rows taken, flag. */
 #define OURS_RECORD 12
@@ -29,6 +26,7 @@ uint32_t ours_apply_alpha_plane(uint32_t layout, uint32_t w, uint32_t h, uint8_t
                                 uint32_t* flag);
 uint32_t ours_has_alpha(uint32_t layout, uint32_t w, uint32_t h, const uint8_t* pixels, size_t len, uint32_t* flag);
 uint32_t ours_unpack(uint32_t layout, const uint8_t* bytes, size_t len, uint32_t* out, size_t out_len);
-uint32_t ours_pack(uint32_t layout, const uint32_t* argb, size_t count, uint8_t* out, size_t out_len);
+/* *flag is the alpha flag of the values. */
+uint32_t ours_pack(uint32_t layout, const uint32_t* argb, size_t count, uint8_t* out, size_t out_len, uint32_t* flag);
 uint32_t ours_scaled(uint32_t w, uint32_t h, uint32_t tw, uint32_t th, uint32_t* width, uint32_t* height);
 #endif

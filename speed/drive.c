@@ -4,15 +4,20 @@
  *   drive memory SIDE JOB      one job in a process of its own: its peak memory in KiB (VmHWM)
  *
  * A round runs every side once, in turning order, and each round has another layout, so that no side knows it beforehand.
- * Timed is processor time of the one thread, which other programs on the machine disturb least. The median counts.
+ * Timed is processor time of the one thread, which other programs on the machine disturb least. A ratio is taken within a round:
+ * its median over the rounds counts, and its range over them is told.
  * NO_ORIGINAL, NO_LIBWEBP and NO_PLAIN leave out what is not at hand. */
 #define _GNU_SOURCE
+#include <errno.h>
+#include <spawn.h>
 #include <stddef.h>
 #include <stdint.h>
 #include <stdio.h>
 #include <stdlib.h>
 #include <string.h>
+#include <sys/wait.h>
 #include <time.h>
+#include <unistd.h>
 
 #include "jonquilsaw.h"
 
@@ -31,12 +36,14 @@ void original_free(void* image, uint8_t* out);
 #endif
 
 typedef struct {
+  const char* name;
   uint32_t w, h, x, y, cw, ch, tw, th;
 } Job;
 
 static const Job kJobs[] = {
-    {4000, 3000, 0, 0, 4000, 3000, 160, 120},      {1920, 1080, 0, 0, 1920, 1080, 320, 180}, {512, 512, 0, 0, 512, 512, 1024, 1024},
-    {3000, 4000, 500, 1000, 2000, 2000, 200, 200}, {16384, 16, 0, 0, 16384, 16, 128, 1},
+    {"photo", 4000, 3000, 0, 0, 4000, 3000, 160, 120},     {"screen", 1920, 1080, 0, 0, 1920, 1080, 320, 180},
+    {"growing", 512, 512, 0, 0, 512, 512, 1024, 1024},     {"crop", 3000, 4000, 500, 1000, 2000, 2000, 200, 200},
+    {"strip", 16384, 16, 0, 0, 16384, 16, 128, 1},
 };
 enum { JOBS = sizeof kJobs / sizeof kJobs[0], MOST_ROUNDS = 1000 };
 
@@ -216,9 +223,27 @@ static double time_side(Side s, Lent* l) {
 
 static int ascending(const void* a, const void* b) { return (*(const double*)a > *(const double*)b) - (*(const double*)a < *(const double*)b); }
 
-/* Medians of all sides in ns for each source pixel; every side must make the same bytes. */
-static void measure(const Job* j, int translucent, int rounds, double median[SIDES]) {
-  static double spent[SIDES][MOST_ROUNDS];
+/* What the rounds gave: the median, the least and the most. */
+typedef struct {
+  double median, least, most;
+} Figure;
+
+static Figure figure(const double* values, int count) {
+  static double sorted[MOST_ROUNDS];
+  memcpy(sorted, values, (size_t)count * sizeof *values);
+  qsort(sorted, (size_t)count, sizeof *sorted, ascending);
+  return (Figure){(sorted[(count - 1) / 2] + sorted[count / 2]) / 2, sorted[0], sorted[count - 1]};
+}
+
+/* Of two sides, within each round. */
+static Figure ratio_of(double spent[SIDES][MOST_ROUNDS], Side a, Side b, int rounds) {
+  static double ratios[MOST_ROUNDS];
+  for (int r = 0; r < rounds; ++r) ratios[r] = spent[a][r] / spent[b][r];
+  return figure(ratios, rounds);
+}
+
+/* The time of every side in every round, in ns for each source pixel; every side must make the same bytes. */
+static void measure(const Job* j, int translucent, int rounds, double spent[SIDES][MOST_ROUNDS]) {
   const size_t n = source_pixels(j), out = target_bytes(j);
   uint32_t* const argb = room(4 * n);
   uint8_t* const first = room(out);
@@ -239,10 +264,6 @@ static void measure(const Job* j, int translucent, int rounds, double median[SID
       if (made++ == 0) memcpy(first, l.out, out);
       else if (memcmp(first, l.out, out)) refuse("the sides do not make the same bytes");
     }
-  }
-  for (int s = 0; s < SIDES; ++s) {
-    qsort(spent[s], (size_t)rounds, sizeof(double), ascending);
-    median[s] = spent[s][rounds / 2];
   }
   free(argb), free(first), free(l.pixels), free(l.cut), free(l.out), free(l.work);
 }
@@ -303,13 +324,24 @@ static long peak(void) {
 }
 
 /* What a process of its own says; SIDES is the process that does nothing. */
-static long peak_of(const char* program, int side, int job) {
-  char command[4096];
-  long kib = -1;
-  snprintf(command, sizeof command, "'%s' memory %d %d", program, side, job);
-  FILE* const f = popen(command, "r");
-  if (!f || fscanf(f, "%ld", &kib) != 1 || pclose(f) != 0) refuse("a memory run failed");
-  return kib;
+static long peak_of(char* program, int side, int job) {
+  extern char** environ;
+  char sides[12], jobs[12], answer[32] = "";
+  int ends[2], status = -1;
+  pid_t child;
+  posix_spawn_file_actions_t actions;
+  snprintf(sides, sizeof sides, "%d", side);
+  snprintf(jobs, sizeof jobs, "%d", job);
+  char* const words[] = {program, "memory", sides, jobs, NULL};
+  if (pipe(ends) || posix_spawn_file_actions_init(&actions) || posix_spawn_file_actions_adddup2(&actions, ends[1], 1) ||
+      posix_spawn_file_actions_addclose(&actions, ends[0]) || posix_spawn(&child, program, &actions, NULL, words, environ)) {
+    refuse("a memory run did not start");
+  }
+  posix_spawn_file_actions_destroy(&actions);
+  close(ends[1]);
+  if (read(ends[0], answer, sizeof answer - 1) <= 0 || waitpid(child, &status, 0) != child || status != 0) refuse("a memory run failed");
+  close(ends[0]);
+  return strtol(answer, NULL, 10);
 }
 
 static void heading(const char* first) {
@@ -319,19 +351,28 @@ static void heading(const char* first) {
   }
 }
 
-static void ratio(double ours, double other, int there) {
-  if (there) printf(" %.2f |", ours / other);
-  else fputs(" - |", stdout);
+static void ratio(double spent[SIDES][MOST_ROUNDS], Side a, Side b, int rounds) {
+  if (!at_hand(b)) {
+    fputs(" - |", stdout);
+    return;
+  }
+  const Figure f = ratio_of(spent, a, b, rounds);
+  printf(" %.2f (%.2f-%.2f) |", f.median, f.least, f.most);
 }
 
-static void name(const Job* j) {
-  printf("| %ux%u", j->w, j->h);
-  if (cropped(j)) printf(" cropped %ux%u", j->cw, j->ch);
-  printf(" to %ux%u", j->tw, j->th);
+static void legend(void) {
+  for (int i = 0; i < JOBS; ++i) {
+    const Job* const j = &kJobs[i];
+    printf("%s: %ux%u", j->name, j->w, j->h);
+    if (cropped(j)) printf(" cropped %ux%u", j->cw, j->ch);
+    printf(" to %ux%u%s", j->tw, j->th, i + 1 < JOBS ? "; " : "\n");
+  }
 }
 
 static void times(int wanted) {
-  puts("ns of processor time for each source pixel, medians:\n");
+  static double spent[SIDES][MOST_ROUNDS];
+  legend();
+  puts("ns of processor time for each source pixel, medians over the rounds; of each ratio the median and the range over the rounds:\n");
   heading("job");
   puts(" rows / Rust | rows / SIMD | whole / SIMD |");
   for (int i = 0; i < SIDES + 4; ++i) {
@@ -341,22 +382,20 @@ static void times(int wanted) {
   for (int i = 0; i < 2 * JOBS; ++i) {
     const Job* const j = &kJobs[i / 2];
     const int rounds = wanted ? wanted : source_pixels(j) > 4000000 ? 15 : 45;
-    double median[SIDES] = {0};
-    measure(j, i % 2, rounds, median);
-    name(j);
-    printf(", %s |", i % 2 ? "translucent" : "opaque");
+    measure(j, i % 2, rounds, spent);
+    printf("| %s, %s |", j->name, i % 2 ? "translucent" : "opaque");
     for (int s = 0; s < SIDES; ++s) {
-      if (at_hand((Side)s)) printf(" %.2f |", median[s]);
+      if (at_hand((Side)s)) printf(" %.2f |", figure(spent[s], rounds).median);
     }
-    ratio(median[ROWS], median[ORIGINAL], at_hand(ORIGINAL));
-    ratio(median[ROWS], median[SIMD], at_hand(SIMD));
-    ratio(median[WHOLE], median[SIMD], at_hand(SIMD));
+    ratio(spent, ROWS, ORIGINAL, rounds);
+    ratio(spent, ROWS, SIMD, rounds);
+    ratio(spent, WHOLE, SIMD, rounds);
     putchar('\n');
     fflush(stdout);
   }
 }
 
-static void memory(const char* program) {
+static void memory(char* program) {
   printf("\nPeak memory (VmHWM) of a process of its own for each, KiB; one that does nothing has %ld:\n\n", peak_of(program, SIDES, 0));
   fputs("| job |", stdout);
   for (int s = 0; s < PLAIN; ++s) {
@@ -368,8 +407,7 @@ static void memory(const char* program) {
   }
   puts("|");
   for (int i = 0; i < JOBS; ++i) {
-    name(&kJobs[i]);
-    fputs(" |", stdout);
+    printf("| %s |", kJobs[i].name);
     for (int s = 0; s < PLAIN; ++s) {
       if (at_hand((Side)s)) printf(" %ld |", peak_of(program, s, i));
     }
@@ -385,9 +423,11 @@ int main(int argc, char** argv) {
     printf("%ld\n", peak());
     return 0;
   }
-  const int wanted = argc > 1 ? atoi(argv[1]) : 0;
-  if (wanted < 0 || wanted > MOST_ROUNDS) refuse("rounds: 1 to 1000");
-  times(wanted);
+  char* end = NULL;
+  errno = 0;
+  const long wanted = argc > 1 ? strtol(argv[1], &end, 10) : 0;
+  if (argc > 2 || (argc > 1 && (errno || end == argv[1] || *end || wanted < 1 || wanted > MOST_ROUNDS))) refuse("rounds: 1 to 1000");
+  times((int)wanted);
   memory(argv[0]);
   return 0;
 }

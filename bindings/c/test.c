@@ -1,4 +1,4 @@
-/* Calls every function of include/jonquilsaw.h: document 01's trials, each refusal in its order, and that a refused call leaves every buffer as it was.
+/* Calls every function of include/jonquilsaw.h: the trials of docs/SCOPE.md, each refusal in its order, and that a refused call leaves every buffer as it was.
  * Every buffer is lent with a page behind it that cannot be touched, since the sanitizers look at this file only. Prints one line. */
 #define _DEFAULT_SOURCE
 #include "jonquilsaw.h"
@@ -275,6 +275,72 @@ static void sizes(void) {
     EXPECT(jonquilsaw_scaled(3, 2, 7, 5, size, 2) == 0 && size[0] == 7 && size[1] == 5);
 }
 
+static void packing(void) {
+    for (uint32_t layout = 0; layout < 3; layout++) {
+        uint8_t *bytes = bytes_of(11, 0), *out = bytes_of(8, 9);
+        uint32_t *argb = words_of(3, 7), *flag = words_of(2, 7);
+        put(bytes, layout, 2, 3, 4, 1);
+        put(bytes + 4, layout, 6, 7, 8, 255);
+        /* unpacked: three trailing bytes are ignored */
+        EXPECT(jonquilsaw_unpack_pixels(3, bytes, 11, argb, 1) == JONQUILSAW_BOUNDARY);
+        EXPECT(jonquilsaw_unpack_pixels(layout, bytes, 11, argb, 3) == JONQUILSAW_OUTPUT_LENGTH);
+        EXPECT(jonquilsaw_unpack_pixels(layout, bytes, 11, argb, 1) == JONQUILSAW_OUTPUT_LENGTH);
+        EXPECT(words_all(argb, 3, 7));
+        EXPECT(jonquilsaw_unpack_pixels(layout, bytes, 11, argb, 2) == 0 && argb[0] == 0x01020304u && argb[1] == 0xff060708u && argb[2] == 7);
+        /* packed again */
+        EXPECT(jonquilsaw_pack_pixels(3, argb, 2, out, 7) == JONQUILSAW_BOUNDARY);
+        EXPECT(jonquilsaw_pack_pixels(layout, argb, 2, out, 7) == JONQUILSAW_OUTPUT_LENGTH);
+        EXPECT(jonquilsaw_pack_pixels(layout, argb, 1, out, 8) == JONQUILSAW_OUTPUT_LENGTH);
+        EXPECT(all(out, 8, 9));
+        EXPECT(jonquilsaw_pack_pixels(layout, argb, 2, out, 8) == 0 && memcmp(out, bytes, 8) == 0);
+        /* their flag */
+        EXPECT(jonquilsaw_argb_has_alpha(argb, 2, flag, 0) == JONQUILSAW_BOUNDARY && words_all(flag, 2, 7));
+        EXPECT(jonquilsaw_argb_has_alpha(argb, 2, flag, 2) == 0 && flag[0] == 1 && flag[1] == 7);
+        EXPECT(jonquilsaw_argb_has_alpha(argb + 1, 1, flag, 1) == 0 && flag[0] == 0);
+    }
+}
+
+/* The header's own functions do what those of the archive do, of a 2 by 3 picture whose crop 1 by 2 at (1, 1) is scaled to 1 by 2. */
+static void with_types(void) {
+    const jonquilsaw_size source = {2, 3}, target = {1, 2};
+    const jonquilsaw_rect crop = {1, 1, 1, 2};
+    const jonquilsaw_plan plan = {source, JONQUILSAW_BGRA8, crop, target};
+    const uint32_t fresh[12] = {2, 3, 2, 1, 1, 1, 2, 1, 2, 0, 0, 0};
+    uint8_t *pixels = bytes_of(24, 255), *out = bytes_of(8, 7), *whole = bytes_of(8, 9);
+    uint32_t *work = words_of(8, 5), *flag = words_of(1, 7), accepted = 0;
+    jonquilsaw_job job;
+    for (int i = 0; i < 24; i++) pixels[i] = (uint8_t)(10 * i);
+    EXPECT(jonquilsaw_job_start(&job, &plan, work, 7) == JONQUILSAW_WORK_LENGTH && words_all(work, 8, 5));
+    EXPECT(jonquilsaw_job_start(&job, &plan, work, 8) == JONQUILSAW_OK && memcmp(job.words, fresh, sizeof fresh) == 0 && words_all(work, 8, 0));
+    EXPECT(jonquilsaw_job_take(&job, out, 4, work, 8) == JONQUILSAW_NONE_READY);
+    EXPECT(jonquilsaw_job_offer(&job, pixels, 24, work, 8, &accepted) == JONQUILSAW_OK && accepted == 2);
+    EXPECT(jonquilsaw_job_take(&job, out, 4, work, 8) == JONQUILSAW_OK);
+    EXPECT(jonquilsaw_job_offer(&job, pixels + 16, 8, work, 8, &accepted) == JONQUILSAW_OK && accepted == 1);
+    EXPECT(jonquilsaw_job_take(&job, out + 4, 4, work, 8) == JONQUILSAW_OK);
+    EXPECT(jonquilsaw_job_accepted(&job) == 3 && jonquilsaw_job_taken(&job) == 2 && jonquilsaw_job_has_alpha(&job) == 1);
+    EXPECT(jonquilsaw_picture_crop(source, JONQUILSAW_BGRA8, pixels, 24, crop, whole, 8, flag) == JONQUILSAW_OK && *flag == 1);
+    EXPECT(memcmp(whole, pixels + 12, 4) == 0 && memcmp(whole + 4, pixels + 20, 4) == 0);
+    uint8_t *scaled = bytes_of(8, 3);
+    EXPECT(jonquilsaw_picture_resize(target, JONQUILSAW_BGRA8, whole, 8, target, scaled, 8, work, 8, flag) == JONQUILSAW_OK && *flag == 1);
+    EXPECT(memcmp(scaled, out, 8) == 0);
+    EXPECT(jonquilsaw_picture_resize(target, JONQUILSAW_BGRA8, whole, 8, source, scaled, 8, work, 8, flag) == JONQUILSAW_OUTPUT_LENGTH);
+
+    jonquilsaw_size made = {7, 7};
+    EXPECT(jonquilsaw_size_scaled(source, 0, 0, &made) == JONQUILSAW_INVALID_DIMENSIONS && made.width == 7 && made.height == 7);
+    EXPECT(jonquilsaw_size_scaled(source, 4, 0, &made) == JONQUILSAW_OK && made.width == 4 && made.height == 6);
+    const jonquilsaw_rect all_of = jonquilsaw_whole(source);
+    EXPECT(all_of.x == 0 && all_of.y == 0 && all_of.width == 2 && all_of.height == 3);
+
+    /* each number has words of its own */
+    const uint32_t numbers[] = {0, 1, 2, 3, 4, 5, 6, 7, 8, 9, 100, 101};
+    for (size_t i = 0; i < sizeof numbers / sizeof *numbers; i++)
+        for (size_t k = 0; k < i; k++) EXPECT(strcmp(jonquilsaw_meaning(numbers[i]), jonquilsaw_meaning(numbers[k])) != 0);
+    EXPECT(strcmp(jonquilsaw_meaning(10), jonquilsaw_meaning(4294967295u)) == 0);
+    char version[32];
+    snprintf(version, sizeof version, "%d.%d.%d", JONQUILSAW_VERSION_MAJOR, JONQUILSAW_VERSION_MINOR, JONQUILSAW_VERSION_PATCH);
+    EXPECT(strcmp(version, JONQUILSAW_VERSION) == 0);
+}
+
 int main(void) {
     starts();
     offers_and_takes();
@@ -283,7 +349,9 @@ int main(void) {
     schedule(3, 5, (const uint32_t[]){0, 1, 3, 5});
     strips();
     pictures();
+    packing();
     sizes();
+    with_types();
     printf("c: %lu checks, %lu failed\n", checks, failures);
     return failures == 0 ? 0 : 1;
 }

@@ -1,4 +1,4 @@
-//! Stands in for webpkit's `crate::error`: the three cases that the two files name, with document 01's numbers.
+//! Stands in for webpkit's `crate::error`: the three cases that the two files name, with SCOPE's numbers.
 
 #[derive(Clone, Copy, PartialEq, Eq, Debug)]
 pub enum Error {

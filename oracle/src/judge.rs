@@ -59,7 +59,8 @@ struct Driver {
 }
 
 fn hold(side: Side, j: &Judged, got: &str, count: &mut Count) {
-    if got == "-" {
+    // libwebp has no counterpart of some calls; the port has one of each
+    if side == Side::Libwebp && got == "-" {
         *count.left_out.entry(j.line.split(' ').next().unwrap().to_owned()).or_default() += 1;
         return;
     }

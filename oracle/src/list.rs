@@ -3,7 +3,7 @@
 //! The first line is the number of entries. An entry is a line of fifteen numbers:
 //!   kind layout width height x y crop_width crop_height target_width target_height pattern seed number flag check
 //! Kind 0: crop then resize, by rows. Kind 1: scaled (flag and check are the answer's width and height). Kind 2: crop.
-//! Kind 3: apply_alpha_plane. `number` is document 01's; a refused call has flag and check 0. `check` is FNV-1a of 32 bits over
+//! Kind 3: apply_alpha_plane. `number` is SCOPE's; a refused call has flag and check 0. `check` is FNV-1a of 32 bits over
 //! the answer's bytes. Every answer is the original's.
 use crate::image::{Dimensions, Image};
 use crate::job::{Pixels, Sizes};

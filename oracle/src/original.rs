@@ -5,7 +5,7 @@
 //! Numbers come from table.rs and are held against the original wherever it can be asked; a line that begins with `!`
 //! says that the original disagrees with itself or with the table, and the comparison fails.
 use crate::geometry::Rect;
-use crate::image::{Dimensions, Image, PixelLayout, pack_pixels, unpack_pixels};
+use crate::image::{Dimensions, Image, PixelLayout, argb_has_alpha, pack_pixels, unpack_pixels};
 use crate::job::{Call, FLAG, Job, K, Pixels, Record, Sizes, T};
 use crate::picture::{bytes, fill_bytes, fill_words, fnv_words, hex, plane};
 use crate::probe::open::{Scaler, alpha_scale, mult_argb};
@@ -36,7 +36,7 @@ impl Whole {
     }
 }
 
-/// The original's crop and then resize, or its error's number. It is asked in document 01's order.
+/// The original's crop and then resize, or its error's number. It is asked in SCOPE's order.
 pub fn cropped(s: &Sizes, pixels: Vec<u8>, target: bool) -> Result<Image, u32> {
     let number = |e: error::Error| e as u32;
     let dims = Dimensions::new(s.w, s.h).map_err(number)?;
@@ -169,7 +169,7 @@ fn whole_answer(job: &Job) -> String {
             let words: Vec<u32> = bytes(2, px.pattern, px.seed, 4 * count).as_chunks::<4>().0.iter().map(|&c| u32::from_le_bytes(c)).collect();
             let fits = *out == 4 * words.len();
             let out = if fits { pack_pixels(layout(*l), &words) } else { fill_bytes(*out) };
-            Whole { number: if fits { 0 } else { 4 }, flag: false, out, work: None }.line()
+            Whole { number: if fits { 0 } else { 4 }, flag: fits && argb_has_alpha(&words), out, work: None }.line()
         }
         Job::Scaled { w, h, tw, th } => match Dimensions::new(*w, *h).and_then(|d| d.scaled(*tw, *th)) {
             Ok(d) => format!("0 {} {}", d.width(), d.height()),
@@ -398,7 +398,7 @@ impl Rows {
             let scaler = self.loaded();
             scaler.export_at(0);
             if scaler.dst() != stated && (natural || !beyond) {
-                self.line = "! the original's export and document 01's formula differ".into();
+                self.line = "! the original's export and SCOPE's formula differ".into();
                 return;
             }
             row = restored(s.layout, &stated, rust_restore);

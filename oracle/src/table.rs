@@ -1,4 +1,4 @@
-//! Document 01's "Why a call is turned away" and "The job": which number a call gets, and how many rows are ready.
+//! SCOPE's "Why a call is turned away" and "The job": which number a call gets, and how many rows are ready.
 //! The original cannot express most of these calls (its pictures always have whole buffers, and it has no record),
 //! so this table judges them; where it can, original.rs holds the table against it.
 use crate::job::{FLAG, K, Record, Sizes, T};

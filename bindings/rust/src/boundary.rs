@@ -5,8 +5,6 @@
 //! unwinds; that is proved of it. The counts of 12 words and of one or two answer words are fixed here by array types.
 #![allow(unsafe_code)]
 
-use crate::error::Error;
-
 /// The words of a job's record.
 pub type Record = [u32; 12];
 
@@ -93,7 +91,12 @@ mod raw {
     }
 }
 
-pub fn start(source: [u32; 2], layout: u32, crop: [u32; 4], target: [u32; 2], work: &mut [u32]) -> Result<Record, Error> {
+/// An answer of the library: 0, or the number that says why not.
+fn answered(number: u32) -> Result<(), u32> {
+    if number == 0 { Ok(()) } else { Err(number) }
+}
+
+pub fn start(source: [u32; 2], layout: u32, crop: [u32; 4], target: [u32; 2], work: &mut [u32]) -> Result<Record, u32> {
     let mut record: Record = [0; 12];
     // SAFETY: `work` and `record` are exclusive borrows, so live, aligned and apart, each passed with its own length.
     let number = unsafe {
@@ -113,11 +116,11 @@ pub fn start(source: [u32; 2], layout: u32, crop: [u32; 4], target: [u32; 2], wo
             record.len(),
         )
     };
-    Error::check(number).map(|()| record)
+    answered(number).map(|()| record)
 }
 
 /// How many rows were accepted.
-pub fn offer(record: &mut Record, rows: &[u8], work: &mut [u32]) -> Result<u32, Error> {
+pub fn offer(record: &mut Record, rows: &[u8], work: &mut [u32]) -> Result<u32, u32> {
     let mut count = [0];
     // SAFETY: `record`, `work` and `count` are exclusive borrows and `rows` is a shared one, so all are live, aligned and apart, each with its own length.
     let number = unsafe {
@@ -132,17 +135,17 @@ pub fn offer(record: &mut Record, rows: &[u8], work: &mut [u32]) -> Result<u32, 
             count.len(),
         )
     };
-    Error::check(number).map(|()| count[0])
+    answered(number).map(|()| count[0])
 }
 
-pub fn take(record: &mut Record, out: &mut [u8], work: &mut [u32]) -> Result<(), Error> {
+pub fn take(record: &mut Record, out: &mut [u8], work: &mut [u32]) -> Result<(), u32> {
     // SAFETY: three exclusive borrows, so live, aligned and apart, each with its own length.
     let number = unsafe { raw::jonquilsaw_take(record.as_mut_ptr(), record.len(), out.as_mut_ptr(), out.len(), work.as_mut_ptr(), work.len()) };
-    Error::check(number)
+    answered(number)
 }
 
 /// The alpha flag of what was copied.
-pub fn crop(source: [u32; 2], layout: u32, crop: [u32; 4], pixels: &[u8], out: &mut [u8]) -> Result<bool, Error> {
+pub fn crop(source: [u32; 2], layout: u32, crop: [u32; 4], pixels: &[u8], out: &mut [u8]) -> Result<bool, u32> {
     let mut flag = [0];
     // SAFETY: `out` and `flag` are exclusive borrows and `pixels` is a shared one, so all are live, aligned and apart, each with its own length.
     let number = unsafe {
@@ -162,11 +165,11 @@ pub fn crop(source: [u32; 2], layout: u32, crop: [u32; 4], pixels: &[u8], out: &
             flag.len(),
         )
     };
-    Error::check(number).map(|()| flag[0] != 0)
+    answered(number).map(|()| flag[0] != 0)
 }
 
 /// The alpha flag of the result.
-pub fn resize(source: [u32; 2], layout: u32, target: [u32; 2], pixels: &[u8], out: &mut [u8], work: &mut [u32]) -> Result<bool, Error> {
+pub fn resize(source: [u32; 2], layout: u32, target: [u32; 2], pixels: &[u8], out: &mut [u8], work: &mut [u32]) -> Result<bool, u32> {
     let mut flag = [0];
     // SAFETY: `out`, `work` and `flag` are exclusive borrows and `pixels` is a shared one, so all are live, aligned and apart, each with its own length.
     let number = unsafe {
@@ -186,18 +189,18 @@ pub fn resize(source: [u32; 2], layout: u32, target: [u32; 2], pixels: &[u8], ou
             flag.len(),
         )
     };
-    Error::check(number).map(|()| flag[0] != 0)
+    answered(number).map(|()| flag[0] != 0)
 }
 
-pub fn has_alpha(size: [u32; 2], layout: u32, pixels: &[u8]) -> Result<bool, Error> {
+pub fn has_alpha(size: [u32; 2], layout: u32, pixels: &[u8]) -> Result<bool, u32> {
     let mut flag = [0];
     // SAFETY: `flag` is an exclusive borrow and `pixels` a shared one, so both are live, aligned and apart, each with its own length.
     let number = unsafe { raw::jonquilsaw_has_alpha(size[0], size[1], layout, pixels.as_ptr(), pixels.len(), flag.as_mut_ptr(), flag.len()) };
-    Error::check(number).map(|()| flag[0] != 0)
+    answered(number).map(|()| flag[0] != 0)
 }
 
 /// The alpha flag of the picture so made.
-pub fn apply_alpha_plane(size: [u32; 2], layout: u32, pixels: &mut [u8], plane: &[u8]) -> Result<bool, Error> {
+pub fn apply_alpha_plane(size: [u32; 2], layout: u32, pixels: &mut [u8], plane: &[u8]) -> Result<bool, u32> {
     let mut flag = [0];
     // SAFETY: `pixels` and `flag` are exclusive borrows and `plane` is a shared one, so all are live, aligned and apart, each with its own length.
     let number = unsafe {
@@ -213,12 +216,12 @@ pub fn apply_alpha_plane(size: [u32; 2], layout: u32, pixels: &mut [u8], plane: 
             flag.len(),
         )
     };
-    Error::check(number).map(|()| flag[0] != 0)
+    answered(number).map(|()| flag[0] != 0)
 }
 
-pub fn scaled(size: [u32; 2], target: [u32; 2]) -> Result<[u32; 2], Error> {
+pub fn scaled(size: [u32; 2], target: [u32; 2]) -> Result<[u32; 2], u32> {
     let mut answer = [0; 2];
     // SAFETY: `answer` is an exclusive borrow, so live and aligned, with its own length.
     let number = unsafe { raw::jonquilsaw_scaled(size[0], size[1], target[0], target[1], answer.as_mut_ptr(), answer.len()) };
-    Error::check(number).map(|()| answer)
+    answered(number).map(|()| answer)
 }

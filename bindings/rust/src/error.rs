@@ -1,90 +1,238 @@
 //! Why a call was turned away.
 
-use std::fmt;
+use crate::geometry::Rect;
+use crate::image::{Dimensions, MAX_DIMENSION};
+use core::fmt;
 
-/// Why the library turned a call away: the variants are its numbers (`Error::PixelBufferMismatch as u32` is 3). A call turned away leaves every buffer and the
-/// job as they were.
+/// A side of a picture or of a crop.
+#[derive(Clone, Copy, PartialEq, Eq, Hash, Debug)]
+#[non_exhaustive]
+pub enum Side {
+    /// The width of a picture or a preview.
+    Width,
+    /// The height of a picture or a preview.
+    Height,
+    /// The width of a crop.
+    CropWidth,
+    /// The height of a crop.
+    CropHeight,
+}
+
+impl fmt::Display for Side {
+    fn fmt(&self, f: &mut fmt::Formatter<'_>) -> fmt::Result {
+        f.write_str(match self {
+            Self::Width => "the width",
+            Self::Height => "the height",
+            Self::CropWidth => "the crop's width",
+            Self::CropHeight => "the crop's height",
+        })
+    }
+}
+
+/// Why the library turned a call away; [`number`](Self::number) is its number. A call turned away leaves every buffer and the job as they were.
 ///
 /// The first three are webpkit's; the others belong to buffers that are lent and to jobs that go row by row.
+///
+/// ```
+/// use jonquilsaw::{Dimensions, Error};
+///
+/// let why = Dimensions::new(640, 20_000).unwrap_err();
+/// assert!(matches!(why, Error::InvalidDimensions { value: 20_000, .. }));
+/// assert_eq!(why.number(), 1);
+/// assert_eq!(why.to_string(), "the height is 20000: a side is 1 to 16384");
+/// ```
 #[derive(Clone, Copy, PartialEq, Eq, Hash, Debug)]
-#[repr(u32)]
+#[non_exhaustive]
 pub enum Error {
-    /// A source or target side is 0 or above 16,384, or the crop is empty.
-    InvalidDimensions = 1,
+    /// A side of a picture or a preview is 0 or above 16,384, or one of a crop is 0.
+    InvalidDimensions {
+        /// The side.
+        side: Side,
+        /// How long it is.
+        value: u64,
+    },
     /// The crop's right or bottom edge lies beyond the picture.
-    CropOutOfBounds = 2,
-    /// Pixels that are not 4 × width × height bytes, an alpha plane that is not width × height, or offered bytes that are empty or no whole number of source rows.
-    PixelBufferMismatch = 3,
+    CropOutOfBounds {
+        /// The crop's side that reaches too far.
+        side: Side,
+        /// Where it ends, in pixels from the picture's left or top.
+        edge: u64,
+        /// Where the picture ends.
+        limit: u32,
+    },
+    /// Pixels that are not 4 × width × height bytes, an alpha plane that is not width × height, or offered bytes that are empty or no whole number of source
+    /// rows.
+    PixelBufferMismatch {
+        /// The bytes that fit; of an offer, those of one row.
+        expected: usize,
+        /// The bytes there were.
+        found: usize,
+    },
     /// An output buffer that is not of the exact length.
-    OutputLength = 4,
-    /// Fewer work values than 8 × target width ([`Dimensions::work_len`](crate::Dimensions::work_len)).
-    WorkLength = 5,
+    OutputLength {
+        /// The bytes that fit.
+        expected: usize,
+        /// The bytes there were.
+        found: usize,
+    },
+    /// Fewer work values than 8 × target width ([`Dimensions::work_len`]).
+    WorkLength {
+        /// The fewest that do.
+        expected: usize,
+        /// Those there were.
+        found: usize,
+    },
     /// A record that no job can have.
-    InvalidRecord = 6,
+    InvalidRecord,
     /// Source rows offered while a preview row is ready: take it first.
-    RowReady = 7,
+    RowReady,
     /// Source rows offered after the last one was accepted.
-    AllAccepted = 8,
+    AllAccepted,
     /// A preview row asked for with none ready.
-    NoneReady = 9,
+    NoneReady,
+}
+
+/// What a call was given, as far as an error names it: the length that fits and the one there was. A call that takes no such thing leaves it out.
+#[derive(Clone, Copy, Default)]
+pub(crate) struct Given {
+    pub window: Option<(Rect, Dimensions)>,
+    pub pixels: (usize, usize),
+    pub out: (usize, usize),
+    pub work: (usize, usize),
 }
 
 impl Error {
-    /// The library's number, turned into a result.
-    pub(crate) fn check(number: u32) -> Result<(), Self> {
-        Err(match number {
-            0 => return Ok(()),
-            1 => Self::InvalidDimensions,
-            2 => Self::CropOutOfBounds,
-            3 => Self::PixelBufferMismatch,
-            4 => Self::OutputLength,
-            5 => Self::WorkLength,
+    /// The library's number, 1 to 9.
+    #[must_use]
+    pub const fn number(self) -> u32 {
+        match self {
+            Self::InvalidDimensions { .. } => 1,
+            Self::CropOutOfBounds { .. } => 2,
+            Self::PixelBufferMismatch { .. } => 3,
+            Self::OutputLength { .. } => 4,
+            Self::WorkLength { .. } => 5,
+            Self::InvalidRecord => 6,
+            Self::RowReady => 7,
+            Self::AllAccepted => 8,
+            Self::NoneReady => 9,
+        }
+    }
+
+    /// The error that the library's number stands for, of a call that was given these.
+    pub(crate) fn of(number: u32, given: Given) -> Self {
+        match number {
+            // Sizes are tested where they are made, so what is wrong is the window.
+            1 | 2 => match given.window.map(|(window, size)| window.fits(size)) {
+                Some(Err(why)) if why.number() == number => why,
+                _ => unreachable!("the library answered with number {number} for a window that fits"),
+            },
+            3 => Self::PixelBufferMismatch { expected: given.pixels.0, found: given.pixels.1 },
+            4 => Self::OutputLength { expected: given.out.0, found: given.out.1 },
+            5 => Self::WorkLength { expected: given.work.0, found: given.work.1 },
             6 => Self::InvalidRecord,
             7 => Self::RowReady,
             8 => Self::AllAccepted,
             9 => Self::NoneReady,
             // 100: a layout that is none or too short an answer, which the boundary's types leave no room for.
             _ => unreachable!("the library answered with number {number}"),
-        })
+        }
     }
 }
 
 impl fmt::Display for Error {
     fn fmt(&self, f: &mut fmt::Formatter<'_>) -> fmt::Result {
-        f.write_str(match self {
-            Self::InvalidDimensions => "a side is 0 or above 16384, or the crop is empty",
-            Self::CropOutOfBounds => "the crop reaches beyond the picture",
-            Self::PixelBufferMismatch => "the bytes do not fit the picture's size",
-            Self::OutputLength => "the output buffer is not of the exact length",
-            Self::WorkLength => "there are too few work values",
-            Self::InvalidRecord => "no job can have this record",
-            Self::RowReady => "a preview row is ready and has to be taken first",
-            Self::AllAccepted => "all source rows were accepted before",
-            Self::NoneReady => "no preview row is ready",
-        })
+        match self {
+            Self::InvalidDimensions { side, value } => write!(f, "{side} is {value}: a side is 1 to {MAX_DIMENSION}"),
+            Self::CropOutOfBounds { side, edge, limit } => write!(f, "{side} reaches to {edge}, and the picture ends at {limit}"),
+            Self::PixelBufferMismatch { expected, found } => {
+                write!(f, "there are {found} bytes where {expected} fit, or for an offer a multiple of it")
+            }
+            Self::OutputLength { expected, found } => write!(f, "the output buffer has {found} bytes and not {expected}"),
+            Self::WorkLength { expected, found } => write!(f, "there are {found} work values and not {expected}"),
+            Self::InvalidRecord => f.write_str("no job can have this record"),
+            Self::RowReady => f.write_str("a preview row is ready and has to be taken first"),
+            Self::AllAccepted => f.write_str("all source rows were accepted before"),
+            Self::NoneReady => f.write_str("no preview row is ready"),
+        }
     }
 }
 
-impl std::error::Error for Error {}
+impl core::error::Error for Error {}
+
+#[cfg(feature = "std")]
+impl From<Error> for std::io::Error {
+    /// Of the kind `WouldBlock` where the call has to wait its turn (a row ready, or none), else `InvalidInput`.
+    fn from(why: Error) -> Self {
+        let kind = match why {
+            Error::RowReady | Error::NoneReady => std::io::ErrorKind::WouldBlock,
+            _ => std::io::ErrorKind::InvalidInput,
+        };
+        Self::new(kind, why)
+    }
+}
 
 /// A result whose error is the library's.
-pub type Result<T, E = Error> = std::result::Result<T, E>;
+pub type Result<T, E = Error> = core::result::Result<T, E>;
 
-#[cfg(test)]
+#[cfg(all(test, feature = "std"))]
 mod tests {
     use super::*;
 
+    fn given() -> Given {
+        Given { window: None, pixels: (8, 7), out: (4, 5), work: (16, 3) }
+    }
+
     #[test]
     fn variants_are_the_numbers() {
-        assert_eq!(Error::check(0), Ok(()));
-        for number in 1..=9 {
-            assert_eq!(Error::check(number).map_err(|e| e as u32), Err(number));
+        for number in 3..=9 {
+            assert_eq!(Error::of(number, given()).number(), number);
+        }
+        let size = Dimensions::new(5, 4).unwrap();
+        for (number, window) in [(1, Rect::new(9, 9, 0, 1)), (2, Rect::new(5, 0, 1, 1))] {
+            assert_eq!(Error::of(number, Given { window: Some((window, size)), ..given() }).number(), number);
         }
     }
 
     #[test]
     #[should_panic(expected = "number 100")]
     fn the_boundary_number_is_no_error() {
-        let _ = Error::check(100);
+        let _ = Error::of(100, given());
+    }
+
+    #[test]
+    #[should_panic(expected = "number 2 for a window that fits")]
+    fn a_window_that_fits_is_no_error() {
+        let size = Dimensions::new(5, 4).unwrap();
+        let _ = Error::of(2, Given { window: Some((Rect::of(size), size)), ..given() });
+    }
+
+    #[test]
+    fn messages_name_the_side_and_the_value() {
+        let size = Dimensions::new(5, 4).unwrap();
+        for (why, said) in [
+            (Dimensions::new(0, 9).unwrap_err(), "the width is 0: a side is 1 to 16384"),
+            (Dimensions::new(9, 16_385).unwrap_err(), "the height is 16385: a side is 1 to 16384"),
+            (size.scaled(0, 0).unwrap_err(), "the width is 0: a side is 1 to 16384"),
+            (size.scaled(0, u32::MAX).unwrap_err(), "the width is 5368709119: a side is 1 to 16384"),
+            (size.scaled(16_384, 20_000).unwrap_err(), "the height is 20000: a side is 1 to 16384"),
+            (Rect::new(0, 0, 3, 0).fits(size).unwrap_err(), "the crop's height is 0: a side is 1 to 16384"),
+            (Rect::new(u32::MAX, 0, 1, 1).fits(size).unwrap_err(), "the crop's width reaches to 4294967296, and the picture ends at 5"),
+            (Rect::new(0, 1, 5, 4).fits(size).unwrap_err(), "the crop's height reaches to 5, and the picture ends at 4"),
+            (Error::of(3, given()), "there are 7 bytes where 8 fit, or for an offer a multiple of it"),
+            (Error::of(4, given()), "the output buffer has 5 bytes and not 4"),
+            (Error::of(5, given()), "there are 3 work values and not 16"),
+        ] {
+            assert_eq!(why.to_string(), said);
+        }
+    }
+
+    #[test]
+    fn kinds_of_io_errors() {
+        use std::io::{self, ErrorKind};
+        for (number, kind) in [(3, ErrorKind::InvalidInput), (7, ErrorKind::WouldBlock), (8, ErrorKind::InvalidInput), (9, ErrorKind::WouldBlock)] {
+            let why = io::Error::from(Error::of(number, given()));
+            assert_eq!(why.kind(), kind);
+            assert_eq!(why.get_ref().and_then(|inner| inner.downcast_ref::<Error>()).map(|inner| inner.number()), Some(number));
+        }
     }
 }

@@ -1,5 +1,6 @@
 //! The crop's window.
 
+use crate::error::{Error, Result, Side};
 use crate::image::Dimensions;
 
 /// A crop rectangle in source-pixel coordinates: the `width x height` window whose top-left corner sits at `(x, y)`.
@@ -48,6 +49,28 @@ impl Rect {
     #[must_use]
     pub const fn height(self) -> u32 {
         self.height
+    }
+
+    /// Whether the window lies inside a picture of this size, and why not.
+    ///
+    /// # Errors
+    ///
+    /// [`Error::InvalidDimensions`] if it is empty, else [`Error::CropOutOfBounds`] if an edge lies beyond the picture.
+    pub fn fits(self, size: Dimensions) -> Result<()> {
+        for (side, length) in [(Side::CropWidth, self.width), (Side::CropHeight, self.height)] {
+            if length == 0 {
+                return Err(Error::InvalidDimensions { side, value: 0 });
+            }
+        }
+        for (side, from, length, limit) in
+            [(Side::CropWidth, self.x, self.width, size.width()), (Side::CropHeight, self.y, self.height, size.height())]
+        {
+            let edge = u64::from(from) + u64::from(length);
+            if edge > u64::from(limit) {
+                return Err(Error::CropOutOfBounds { side, edge, limit });
+            }
+        }
+        Ok(())
     }
 
     pub(crate) const fn words(self) -> [u32; 4] {

@@ -1,7 +1,7 @@
 //! Sizes, byte orders and whole pictures.
 
 use crate::boundary;
-use crate::error::{Error, Result};
+use crate::error::{Error, Given, Result, Side};
 use crate::geometry::Rect;
 
 /// The largest side of a picture.
@@ -32,8 +32,11 @@ impl Dimensions {
     ///
     /// [`Error::InvalidDimensions`] if a side is 0 or above 16,384.
     pub const fn new(width: u32, height: u32) -> Result<Self> {
-        if width == 0 || width > MAX_DIMENSION || height == 0 || height > MAX_DIMENSION {
-            return Err(Error::InvalidDimensions);
+        if width == 0 || width > MAX_DIMENSION {
+            return Err(Error::InvalidDimensions { side: Side::Width, value: width as u64 });
+        }
+        if height == 0 || height > MAX_DIMENSION {
+            return Err(Error::InvalidDimensions { side: Side::Height, value: height as u64 });
         }
         Ok(Self { width, height })
     }
@@ -85,11 +88,27 @@ impl Dimensions {
     ///
     /// let size = Dimensions::new(3, 2)?;
     /// assert_eq!(size.scaled(0, 1), Dimensions::new(2, 1));
-    /// assert_eq!(size.scaled(0, 0), Err(Error::InvalidDimensions));
+    /// assert!(matches!(size.scaled(0, 0), Err(Error::InvalidDimensions { .. })));
     /// # Ok::<(), Error>(())
     /// ```
     pub fn scaled(self, width: u32, height: u32) -> Result<Self> {
-        boundary::scaled(self.words(), [width, height]).map(|[width, height]| Self { width, height })
+        match boundary::scaled(self.words(), [width, height]) {
+            Ok([width, height]) => Ok(Self { width, height }),
+            Err(_) => Err(self.no_size(width, height)),
+        }
+    }
+
+    /// Which side the size that was asked for does not have. Both are worked out, without a limit.
+    fn no_size(self, width: u32, height: u32) -> Error {
+        let derived = |side: u32, other: u64, of: u32| (u64::from(side) * other).div_ceil(u64::from(of));
+        let wide = if width == 0 { derived(self.width, height.into(), self.height) } else { width.into() };
+        let high = if height == 0 { derived(self.height, wide, self.width) } else { height.into() };
+        let bad = |value: u64| value == 0 || value > u64::from(MAX_DIMENSION);
+        if bad(wide) {
+            Error::InvalidDimensions { side: Side::Width, value: wide }
+        } else {
+            Error::InvalidDimensions { side: Side::Height, value: high }
+        }
     }
 
     pub(crate) const fn words(self) -> [u32; 2] {
@@ -152,6 +171,7 @@ impl PixelLayout {
 /// assert_eq!(image.crop(Rect::new(1, 0, 1, 1))?.as_bytes(), [21, 21, 21, 255]);
 /// # Ok::<(), jonquilsaw::Error>(())
 /// ```
+#[cfg(feature = "std")]
 #[derive(Clone, PartialEq, Eq, Hash, Debug)]
 pub struct Image {
     dims: Dimensions,
@@ -160,6 +180,7 @@ pub struct Image {
     has_alpha: bool,
 }
 
+#[cfg(feature = "std")]
 impl Image {
     /// A picture from its bytes; the alpha flag is found by looking at every alpha byte.
     ///
@@ -167,7 +188,7 @@ impl Image {
     ///
     /// [`Error::PixelBufferMismatch`] if `pixels` isn't 4 × width × height bytes.
     pub fn new(dims: Dimensions, layout: PixelLayout, pixels: Vec<u8>) -> Result<Self> {
-        let has_alpha = boundary::has_alpha(dims.words(), layout.word(), &pixels)?;
+        let has_alpha = ImageRef::new(dims, layout, &pixels)?.has_alpha();
         Ok(Self { dims, layout, pixels, has_alpha })
     }
 
@@ -225,7 +246,9 @@ impl Image {
     ///
     /// [`Error::PixelBufferMismatch`] if `alpha` isn't width × height bytes; the picture stays as it was.
     pub fn apply_alpha_plane(&mut self, alpha: &[u8]) -> Result<()> {
-        self.has_alpha = boundary::apply_alpha_plane(self.dims.words(), self.layout.word(), &mut self.pixels, alpha)?;
+        let given = Given { pixels: (self.pixels.len() / PIXEL, alpha.len()), ..Given::default() };
+        self.has_alpha =
+            boundary::apply_alpha_plane(self.dims.words(), self.layout.word(), &mut self.pixels, alpha).map_err(|number| Error::of(number, given))?;
         Ok(())
     }
 
@@ -235,14 +258,18 @@ impl Image {
     ///
     /// [`Error::InvalidDimensions`] if `rect` is empty, [`Error::CropOutOfBounds`] if it does not lie inside the picture.
     pub fn crop(&self, rect: Rect) -> Result<Self> {
-        // A window that fits has the sides of a size; one that doesn't is turned away with an empty buffer, since 1 and 2 come before 4.
-        let dims = Dimensions::new(rect.width(), rect.height());
-        let mut pixels = vec![0; if self.holds(rect) { dims.map_or(0, Dimensions::byte_len) } else { 0 }];
+        rect.fits(self.dims)?;
+        let dims = Dimensions::new(rect.width(), rect.height())?;
+        let mut pixels = vec![0; dims.byte_len()];
         let has_alpha = self.as_image_ref().crop_into(rect, &mut pixels)?;
-        Ok(Self { dims: dims?, layout: self.layout, pixels, has_alpha })
+        Ok(Self { dims, layout: self.layout, pixels, has_alpha })
     }
 
     /// The picture scaled to `target`.
+    ///
+    /// # Panics
+    ///
+    /// Never: the library refuses only sizes and lengths, and these fit.
     #[must_use]
     pub fn resize(&self, target: Dimensions) -> Self {
         let mut pixels = vec![0; target.byte_len()];
@@ -251,11 +278,27 @@ impl Image {
             self.as_image_ref().resize_into(target, &mut pixels, &mut work).expect("sizes are in range and every buffer has the library's length");
         Self { dims: target, layout: self.layout, pixels, has_alpha }
     }
+}
 
-    fn holds(&self, rect: Rect) -> bool {
-        let edge = |from: u32, by: u32| u64::from(from) + u64::from(by);
-        edge(rect.x(), rect.width()) <= self.width().into() && edge(rect.y(), rect.height()) <= self.height().into()
-    }
+/// Writes a plane of width × height bytes to the alpha bytes of a lent picture, and returns the alpha flag that it has then.
+///
+/// # Errors
+///
+/// [`Error::PixelBufferMismatch`] if `pixels` isn't 4 × width × height bytes or `alpha` isn't width × height; the picture stays as it was.
+///
+/// ```
+/// use jonquilsaw::{Dimensions, PixelLayout, apply_alpha_plane};
+///
+/// let mut pixels = [10, 20, 30, 40];
+/// assert_eq!(apply_alpha_plane(Dimensions::new(1, 1)?, PixelLayout::Argb8, &mut pixels, &[128]), Ok(true));
+/// assert_eq!(pixels, [128, 20, 30, 40]);
+/// # Ok::<(), jonquilsaw::Error>(())
+/// ```
+pub fn apply_alpha_plane(dims: Dimensions, layout: PixelLayout, pixels: &mut [u8], alpha: &[u8]) -> Result<bool> {
+    let whole = dims.byte_len();
+    let given = if pixels.len() == whole { (whole / PIXEL, alpha.len()) } else { (whole, pixels.len()) };
+    boundary::apply_alpha_plane(dims.words(), layout.word(), pixels, alpha)
+        .map_err(|number| Error::of(number, Given { pixels: given, ..Given::default() }))
 }
 
 /// A borrowed picture: size, layout and pixels. Its results go to buffers that the caller lends, so nothing is allocated.
@@ -274,7 +317,7 @@ impl<'a> ImageRef<'a> {
     /// [`Error::PixelBufferMismatch`] if `pixels` isn't 4 × width × height bytes.
     pub const fn new(dims: Dimensions, layout: PixelLayout, pixels: &'a [u8]) -> Result<Self> {
         if pixels.len() != dims.byte_len() {
-            return Err(Error::PixelBufferMismatch);
+            return Err(Error::PixelBufferMismatch { expected: dims.byte_len(), found: pixels.len() });
         }
         Ok(Self { dims, layout, pixels })
     }
@@ -298,6 +341,10 @@ impl<'a> ImageRef<'a> {
     }
 
     /// Whether any alpha byte isn't 255.
+    ///
+    /// # Panics
+    ///
+    /// Never: the library refuses only sizes and lengths, and these fit.
     #[must_use]
     pub fn has_alpha(self) -> bool {
         boundary::has_alpha(self.dims.words(), self.layout.word(), self.pixels).expect("the size is in range and the pixels fit it")
@@ -309,7 +356,9 @@ impl<'a> ImageRef<'a> {
     ///
     /// [`Error::InvalidDimensions`], [`Error::CropOutOfBounds`], or [`Error::OutputLength`] if `out` isn't 4 × width × height bytes of the window.
     pub fn crop_into(self, rect: Rect, out: &mut [u8]) -> Result<bool> {
-        boundary::crop(self.dims.words(), self.layout.word(), rect.words(), self.pixels, out)
+        let expected = (PIXEL * rect.width() as usize).saturating_mul(rect.height() as usize);
+        let given = Given { window: Some((rect, self.dims)), out: (expected, out.len()), ..Given::default() };
+        boundary::crop(self.dims.words(), self.layout.word(), rect.words(), self.pixels, out).map_err(|number| Error::of(number, given))
     }
 
     /// Scales the picture to `out` and returns the result's alpha flag.
@@ -330,11 +379,12 @@ impl<'a> ImageRef<'a> {
     /// # Ok::<(), jonquilsaw::Error>(())
     /// ```
     pub fn resize_into(self, target: Dimensions, out: &mut [u8], work: &mut [u32]) -> Result<bool> {
-        boundary::resize(self.dims.words(), self.layout.word(), target.words(), self.pixels, out, work)
+        let given = Given { out: (target.byte_len(), out.len()), work: (target.work_len(), work.len()), ..Given::default() };
+        boundary::resize(self.dims.words(), self.layout.word(), target.words(), self.pixels, out, work).map_err(|number| Error::of(number, given))
     }
 }
 
-#[cfg(test)]
+#[cfg(all(test, feature = "std"))]
 mod tests {
     use super::*;
 
@@ -349,8 +399,8 @@ mod tests {
     #[test]
     fn sides() {
         for side in [0, 16385, u32::MAX] {
-            assert_eq!(Dimensions::new(side, 1), Err(Error::InvalidDimensions));
-            assert_eq!(Dimensions::try_from((1, side)), Err(Error::InvalidDimensions));
+            assert_eq!(Dimensions::new(side, 1), Err(Error::InvalidDimensions { side: Side::Width, value: side.into() }));
+            assert_eq!(Dimensions::try_from((1, side)), Err(Error::InvalidDimensions { side: Side::Height, value: side.into() }));
         }
         let largest = size(16384, 16384);
         assert_eq!((largest.pixel_count(), largest.byte_len(), largest.row_len(), largest.work_len()), (1 << 28, 1 << 30, 1 << 16, 1 << 17));
@@ -360,10 +410,12 @@ mod tests {
     fn derived_sides() {
         assert_eq!(size(3, 2).scaled(0, 1), Ok(size(2, 1)));
         assert_eq!(size(3, 2).scaled(5, 7), Ok(size(5, 7)));
-        assert_eq!(size(1, 16384).scaled(2, 0), Err(Error::InvalidDimensions));
+        assert_eq!(size(1, 16384).scaled(2, 0), Err(Error::InvalidDimensions { side: Side::Height, value: 32768 }));
+        assert_eq!(size(3, 2).scaled(0, 0), Err(Error::InvalidDimensions { side: Side::Width, value: 0 }));
+        assert_eq!(size(1, 2).scaled(0, 32769), Err(Error::InvalidDimensions { side: Side::Width, value: 16385 }));
     }
 
-    // Document 01's trials.
+    // The trials of docs/SCOPE.md.
     #[test]
     fn trials() {
         let greys = |image: &Image| image.as_bytes().chunks(4).map(|p| p[0]).collect::<Vec<_>>();
@@ -400,16 +452,19 @@ mod tests {
         let window = image.crop(Rect::new(1, 1, 2, 1)).unwrap();
         assert_eq!((window.dimensions(), window.as_bytes()), (size(2, 1), &[16, 17, 18, 19, 20, 21, 22, 23][..]));
         assert_eq!(image.crop(Rect::of(size(3, 2))).as_ref(), Ok(&image));
-        for (rect, error) in [
-            (Rect::new(0, 0, 0, 1), Error::InvalidDimensions),
-            (Rect::new(9, 0, 1, 0), Error::InvalidDimensions),
-            (Rect::new(2, 0, 2, 1), Error::CropOutOfBounds),
-            (Rect::new(0, 1, 1, 2), Error::CropOutOfBounds),
-            (Rect::new(u32::MAX, 0, 1, 1), Error::CropOutOfBounds),
-            (Rect::new(0, 0, 16385, 1), Error::CropOutOfBounds),
-            (Rect::new(0, 0, 16384, 16384), Error::CropOutOfBounds),
+        for (rect, number) in [
+            (Rect::new(0, 0, 0, 1), 1),
+            (Rect::new(9, 0, 1, 0), 1),
+            (Rect::new(2, 0, 2, 1), 2),
+            (Rect::new(0, 1, 1, 2), 2),
+            (Rect::new(u32::MAX, 0, 1, 1), 2),
+            (Rect::new(0, 0, 16385, 1), 2),
+            (Rect::new(0, 0, 16384, 16384), 2),
         ] {
-            assert_eq!(image.crop(rect), Err(error), "{rect:?}");
+            assert_eq!(image.crop(rect).map_err(Error::number), Err(number), "{rect:?}");
+            // The library's own test gives the same answer as `fits`.
+            let whole = image.as_image_ref();
+            assert_eq!(whole.crop_into(rect, &mut []), rect.fits(whole.dimensions()).map(|()| false), "{rect:?}");
         }
     }
 
@@ -417,7 +472,7 @@ mod tests {
     fn planes() {
         let mut image = Image::new(size(2, 1), PixelLayout::Bgra8, vec![7; 8]).unwrap();
         assert!(image.has_alpha());
-        assert_eq!(image.apply_alpha_plane(&[1]), Err(Error::PixelBufferMismatch));
+        assert_eq!(image.apply_alpha_plane(&[1]), Err(Error::PixelBufferMismatch { expected: 2, found: 1 }));
         assert_eq!(image.as_bytes(), [7; 8]);
         image.apply_alpha_plane(&[255, 255]).unwrap();
         assert_eq!((image.as_bytes(), image.has_alpha()), (&[7, 7, 7, 255, 7, 7, 7, 255][..], false));
@@ -427,14 +482,14 @@ mod tests {
 
     #[test]
     fn wrong_lengths() {
-        assert_eq!(Image::new(size(2, 1), PixelLayout::Rgba8, vec![0; 7]), Err(Error::PixelBufferMismatch));
-        assert_eq!(ImageRef::new(size(2, 1), PixelLayout::Rgba8, &[0; 9]).err(), Some(Error::PixelBufferMismatch));
+        assert_eq!(Image::new(size(2, 1), PixelLayout::Rgba8, vec![0; 7]), Err(Error::PixelBufferMismatch { expected: 8, found: 7 }));
+        assert_eq!(ImageRef::new(size(2, 1), PixelLayout::Rgba8, &[0; 9]).err(), Some(Error::PixelBufferMismatch { expected: 8, found: 9 }));
         let image = ImageRef::new(size(2, 1), PixelLayout::Rgba8, &[255; 8]).unwrap();
         let target = size(1, 1);
         let (mut out, mut work) = ([7; 5], [9; 8]);
-        assert_eq!(image.resize_into(target, &mut out, &mut work), Err(Error::OutputLength));
-        assert_eq!(image.resize_into(target, &mut out[..4], &mut work[..7]), Err(Error::WorkLength));
-        assert_eq!(image.crop_into(Rect::new(0, 0, 1, 1), &mut out), Err(Error::OutputLength));
+        assert_eq!(image.resize_into(target, &mut out, &mut work), Err(Error::OutputLength { expected: 4, found: 5 }));
+        assert_eq!(image.resize_into(target, &mut out[..4], &mut work[..7]), Err(Error::WorkLength { expected: 8, found: 7 }));
+        assert_eq!(image.crop_into(Rect::new(0, 0, 1, 1), &mut out), Err(Error::OutputLength { expected: 4, found: 5 }));
         assert_eq!((out, work), ([7; 5], [9; 8]));
         assert_eq!(image.resize_into(target, &mut out[..4], &mut work), Ok(false));
         assert_eq!(out, [255, 255, 255, 255, 7]);

@@ -1,7 +1,7 @@
 //! The library's job: whole rows in, a row out, in buffers that the caller lends.
 
 use crate::boundary::{self, Record};
-use crate::error::{Error, Result};
+use crate::error::{Error, Given, Result};
 use crate::geometry::Rect;
 use crate::image::{Dimensions, PixelLayout};
 
@@ -39,7 +39,11 @@ impl Job {
     /// [`Error::InvalidDimensions`] if the crop is empty, [`Error::CropOutOfBounds`] if it does not lie inside the source, [`Error::WorkLength`] if `work` has
     /// fewer than [`target.work_len()`](Dimensions::work_len) values.
     pub fn start(source: Dimensions, layout: PixelLayout, crop: Rect, target: Dimensions, work: &mut [u32]) -> Result<Self> {
-        boundary::start(source.words(), layout.word(), crop.words(), target.words(), work).map(|record| Self { record })
+        let given = Given { window: Some((crop, source)), work: (target.work_len(), work.len()), ..Given::default() };
+        match boundary::start(source.words(), layout.word(), crop.words(), target.words(), work) {
+            Ok(record) => Ok(Self { record }),
+            Err(number) => Err(Error::of(number, given)),
+        }
     }
 
     /// A job from the twelve words that [`Self::record`] gave, to go on elsewhere with a copy of the work values. Words that keep the library's rules
@@ -52,8 +56,8 @@ impl Job {
         let mut job = Self { record };
         // A take tests the record first and turns an empty row away next, so it leaves all as it was.
         match boundary::take(&mut job.record, &mut [], &mut []) {
-            Err(Error::OutputLength) => Ok(job),
-            refused => Err(refused.err().unwrap_or(Error::InvalidRecord)),
+            Err(4) => Ok(job),
+            _ => Err(Error::InvalidRecord),
         }
     }
 
@@ -71,7 +75,11 @@ impl Job {
     /// [`Error::PixelBufferMismatch`] if `rows` is empty or no whole number of source rows, [`Error::WorkLength`], [`Error::RowReady`] if a preview row has to be
     /// taken first, [`Error::AllAccepted`]. The job and `work` stay as they were.
     pub fn offer(&mut self, rows: &[u8], work: &mut [u32]) -> Result<usize> {
-        boundary::offer(&mut self.record, rows, work).map(|count| count as usize)
+        let given = Given { pixels: (self.source().row_len(), rows.len()), work: (self.target().work_len(), work.len()), ..Given::default() };
+        match boundary::offer(&mut self.record, rows, work) {
+            Ok(count) => Ok(count as usize),
+            Err(number) => Err(Error::of(number, given)),
+        }
     }
 
     /// Takes the next preview row.
@@ -81,16 +89,21 @@ impl Job {
     /// [`Error::OutputLength`] if `out` isn't exactly a row of the target, [`Error::WorkLength`], [`Error::NoneReady`]. The job, `out` and `work` stay as they
     /// were.
     pub fn take(&mut self, out: &mut [u8], work: &mut [u32]) -> Result<()> {
-        boundary::take(&mut self.record, out, work)
+        let given = Given { out: (self.target().row_len(), out.len()), work: (self.target().work_len(), work.len()), ..Given::default() };
+        boundary::take(&mut self.record, out, work).map_err(|number| Error::of(number, given))
     }
 
     /// The source's size.
     #[must_use]
-    pub fn source(&self) -> Dimensions {
+    pub const fn source(&self) -> Dimensions {
         self.size(0)
     }
 
     /// The byte order of rows in and rows out.
+    ///
+    /// # Panics
+    ///
+    /// Never: a job has one of the three layouts.
     #[must_use]
     pub fn layout(&self) -> PixelLayout {
         PixelLayout::of_word(self.record[2]).expect("a job's layout is one of the three")
@@ -104,7 +117,7 @@ impl Job {
 
     /// The preview's size.
     #[must_use]
-    pub fn target(&self) -> Dimensions {
+    pub const fn target(&self) -> Dimensions {
         self.size(7)
     }
 
@@ -132,12 +145,15 @@ impl Job {
         self.taken() == self.record[8]
     }
 
-    fn size(&self, at: usize) -> Dimensions {
-        Dimensions::new(self.record[at], self.record[at + 1]).expect("a job's sizes are in range")
+    const fn size(&self, at: usize) -> Dimensions {
+        match Dimensions::new(self.record[at], self.record[at + 1]) {
+            Ok(size) => size,
+            Err(_) => unreachable!(),
+        }
     }
 }
 
-#[cfg(test)]
+#[cfg(all(test, feature = "std"))]
 mod tests {
     use super::*;
 
@@ -166,10 +182,13 @@ mod tests {
     #[test]
     fn every_refusal_leaves_all_as_it_was() {
         let mut work = [7; 8];
-        assert_eq!(job(&mut work[..7]), Err(Error::WorkLength));
+        let too_few = Error::WorkLength { expected: 8, found: 7 };
+        assert_eq!(job(&mut work[..7]), Err(too_few));
         let source = Dimensions::new(2, 3).unwrap();
-        for (crop, error) in [(Rect::new(0, 0, 0, 1), Error::InvalidDimensions), (Rect::new(1, 1, 2, 2), Error::CropOutOfBounds)] {
-            assert_eq!(Job::start(source, PixelLayout::Rgba8, crop, source, &mut work), Err(error));
+        for (crop, number) in [(Rect::new(0, 0, 0, 1), 1), (Rect::new(1, 1, 2, 2), 2)] {
+            let refused = Job::start(source, PixelLayout::Rgba8, crop, source, &mut work);
+            assert_eq!(refused.as_ref().map_err(|why| why.number()), Err(number));
+            assert_eq!(refused.err(), crop.fits(source).err());
         }
         assert_eq!(work, [7; 8]);
         let mut job = job(&mut work).unwrap();
@@ -179,11 +198,11 @@ mod tests {
         let refused = |job: &mut Job, out: &mut [u8; 5], work: &mut [u32; 8], ready: bool| {
             let before = (job.clone(), *out, *work);
             for bytes in [0, 7, 9] {
-                assert_eq!(job.offer(&rows[..bytes], work), Err(Error::PixelBufferMismatch));
+                assert_eq!(job.offer(&rows[..bytes], work), Err(Error::PixelBufferMismatch { expected: 8, found: bytes }));
             }
-            assert_eq!(job.offer(&rows[..8], &mut work[..7]), Err(Error::WorkLength));
-            assert_eq!(job.take(out, work), Err(Error::OutputLength));
-            assert_eq!(job.take(&mut out[..4], &mut work[..7]), Err(Error::WorkLength));
+            assert_eq!(job.offer(&rows[..8], &mut work[..7]), Err(too_few));
+            assert_eq!(job.take(out, work), Err(Error::OutputLength { expected: 4, found: 5 }));
+            assert_eq!(job.take(&mut out[..4], &mut work[..7]), Err(too_few));
             if ready {
                 assert_eq!(job.offer(&rows, work), Err(Error::RowReady));
             } else {

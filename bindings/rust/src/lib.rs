@@ -6,6 +6,9 @@
 //! - [`Job`] is the library's own job over lent buffers: whole rows in by [`Job::offer`], a row out by [`Job::take`], no heap.
 //! - [`Dimensions::scaled`] derives a target size from one side.
 //!
+//! Without the feature `std`, which is on by default, the crate is `no_std` and uses no heap: [`Job`], [`ImageRef`], [`apply_alpha_plane`], [`Dimensions`],
+//! [`Rect`] and [`Error`] are there.
+//!
 //! Pixels are 4 bytes each in a [`PixelLayout`]'s order, rows stand one after another without gaps, and colours are not premultiplied by alpha.
 //!
 //! ```
@@ -24,15 +27,25 @@
 //! # Ok::<(), Box<dyn std::error::Error>>(())
 //! ```
 
+#![cfg_attr(not(feature = "std"), no_std)]
+
+// The documents can be made anywhere.
+#[cfg(not(any(doc, all(target_arch = "x86_64", target_os = "linux", target_pointer_width = "64"))))]
+compile_error!("libjonquilsaw.a is compiled for x86-64 Linux, and this target is another");
+
 mod boundary;
 mod error;
 mod geometry;
 mod image;
 mod job;
+#[cfg(feature = "std")]
 mod preview;
 
-pub use error::{Error, Result};
+pub use error::{Error, Result, Side};
 pub use geometry::Rect;
-pub use image::{Dimensions, Image, ImageRef, MAX_DIMENSION, PixelLayout};
+#[cfg(feature = "std")]
+pub use image::Image;
+pub use image::{Dimensions, ImageRef, MAX_DIMENSION, PixelLayout, apply_alpha_plane};
 pub use job::Job;
-pub use preview::{Preview, PreviewError, PreviewWriter};
+#[cfg(feature = "std")]
+pub use preview::{IntoInnerError, Preview, PreviewError, PreviewWriter};

@@ -8,7 +8,10 @@ use std::fmt;
 use std::io::{self, Write};
 
 /// Why a [`Preview`] did not take bytes, or is not finished. Nothing is lost by it: what was taken stays, and the preview can go on.
+///
+/// An [`Error`] turns into one, so that `?` serves for both.
 #[derive(Clone, Copy, PartialEq, Eq, Hash, Debug)]
+#[non_exhaustive]
 pub enum PreviewError {
     /// A preview row is ready: ask [`Preview::next_row`] until it has none.
     RowReady,
@@ -19,6 +22,8 @@ pub enum PreviewError {
         /// The bytes that have not arrived.
         missing: usize,
     },
+    /// A size, a window or a length that the library refuses. No call on a preview says so; making one may.
+    Refused(Error),
 }
 
 impl fmt::Display for PreviewError {
@@ -27,11 +32,36 @@ impl fmt::Display for PreviewError {
             Self::RowReady => Error::RowReady.fmt(f),
             Self::TooManyBytes => f.write_str("there are more bytes than the picture has"),
             Self::EndsEarly { missing } => write!(f, "the picture ends {missing} bytes early"),
+            Self::Refused(why) => why.fmt(f),
         }
     }
 }
 
 impl std::error::Error for PreviewError {}
+
+impl From<Error> for PreviewError {
+    fn from(why: Error) -> Self {
+        match why {
+            Error::RowReady => Self::RowReady,
+            Error::AllAccepted => Self::TooManyBytes,
+            why => Self::Refused(why),
+        }
+    }
+}
+
+impl TryFrom<PreviewError> for Error {
+    type Error = PreviewError;
+
+    /// The library's error, where there is one: it knows of no bytes that are missing.
+    fn try_from(why: PreviewError) -> Result<Self, PreviewError> {
+        match why {
+            PreviewError::RowReady => Ok(Self::RowReady),
+            PreviewError::TooManyBytes => Ok(Self::AllAccepted),
+            PreviewError::EndsEarly { .. } => Err(why),
+            PreviewError::Refused(why) => Ok(why),
+        }
+    }
+}
 
 impl From<PreviewError> for io::Error {
     fn from(why: PreviewError) -> Self {
@@ -39,6 +69,7 @@ impl From<PreviewError> for io::Error {
             PreviewError::RowReady => io::ErrorKind::WouldBlock,
             PreviewError::TooManyBytes => io::ErrorKind::InvalidInput,
             PreviewError::EndsEarly { .. } => io::ErrorKind::UnexpectedEof,
+            PreviewError::Refused(why) => return why.into(),
         };
         Self::new(kind, why)
     }
@@ -214,44 +245,65 @@ impl Preview {
 
 /// A [`Preview`] as a [`Write`]: the picture's bytes are written to it in pieces of any length, and it writes each preview row to a sink as it becomes ready.
 ///
-/// What the sink does not take is kept: where the sink fails, the next call goes on at the same byte of the same row. Call [`finish`](Self::finish) at the end.
+/// End with [`finish`](Self::finish), which gives the sink back. Nothing is written when it is dropped.
+///
+/// What the sink does not take is kept: where the sink fails, a later call goes on at the same byte of the same row. An error of the sink is told once and is
+/// never passed over: a write that had taken bytes before the sink failed answers how many, and the next call begins with the error.
 ///
 /// ```
 /// use jonquilsaw::{Dimensions, PixelLayout, Preview, PreviewWriter, Rect};
-/// use std::io::{Read, Write};
 ///
 /// let source = Dimensions::new(2, 1)?;
 /// let preview = Preview::new(source, PixelLayout::Rgba8, Rect::of(source), Dimensions::new(3, 1)?)?;
 /// let mut writer = PreviewWriter::new(preview, Vec::new());
 /// let mut socket = &[10, 10, 10, 255, 21, 21, 21, 255][..];
 /// std::io::copy(&mut socket, &mut writer)?;
-/// writer.finish()?;
-/// assert_eq!(writer.into_inner(), [10, 10, 10, 255, 16, 16, 16, 255, 21, 21, 21, 255]);
+/// let (rows, has_alpha) = writer.finish()?;
+/// assert_eq!(rows, [10, 10, 10, 255, 16, 16, 16, 255, 21, 21, 21, 255]);
+/// assert!(!has_alpha);
 /// # Ok::<(), Box<dyn std::error::Error>>(())
 /// ```
+#[must_use = "`finish` tells whether all bytes came and the sink has every row"]
 #[derive(Debug)]
 pub struct PreviewWriter<W> {
     preview: Preview,
     sink: W,
     /// How much of the row handed out the sink has.
     sent: usize,
+    /// An error of the sink that no call has told.
+    failed: Option<io::Error>,
 }
 
 impl<W: Write> PreviewWriter<W> {
     /// Writes the rows of `preview` to `sink`.
     pub fn new(preview: Preview, sink: W) -> Self {
         let sent = preview.row.len();
-        Self { preview, sink, sent }
+        Self { preview, sink, sent, failed: None }
     }
 
-    /// Says that no more bytes come, passes on what the sink has not got, and returns whether an alpha byte of the preview isn't 255.
+    /// Says that no more bytes come, passes on what the sink has not got, flushes it, and gives it back with whether an alpha byte of the preview isn't 255.
     ///
     /// # Errors
     ///
-    /// The sink's, or [`PreviewError::EndsEarly`] of the kind [`UnexpectedEof`](io::ErrorKind::UnexpectedEof). Writing can go on after it.
-    pub fn finish(&mut self) -> io::Result<bool> {
-        self.flush()?;
-        Ok(self.preview.finish()?)
+    /// The sink's, or [`PreviewError::EndsEarly`] of the kind [`UnexpectedEof`](io::ErrorKind::UnexpectedEof). The writer comes back in it and can go on; `?`
+    /// makes an [`io::Error`] of it.
+    pub fn finish(mut self) -> Result<(W, bool), IntoInnerError<W>> {
+        match self.flush().and_then(|()| Ok(self.preview.finish()?)) {
+            Ok(has_alpha) => Ok((self.sink, has_alpha)),
+            Err(error) => Err(IntoInnerError::new(self, error)),
+        }
+    }
+
+    /// The sink alone, with every row that is ready. The picture need not be whole: [`finish`](Self::finish) asks that.
+    ///
+    /// # Errors
+    ///
+    /// The sink's, where it does not take a row that is ready, or an error of it that no call has told. The writer comes back in it.
+    pub fn into_inner(mut self) -> Result<W, IntoInnerError<W>> {
+        match self.tell().and_then(|()| self.pass_on()) {
+            Ok(()) => Ok(self.sink),
+            Err(error) => Err(IntoInnerError::new(self, error)),
+        }
     }
 
     /// Whether the sink has every preview row.
@@ -277,10 +329,9 @@ impl<W: Write> PreviewWriter<W> {
         &mut self.sink
     }
 
-    /// The sink alone.
-    #[must_use]
-    pub fn into_inner(self) -> W {
-        self.sink
+    /// The sink's error, if there is one that no call has told.
+    fn tell(&mut self) -> io::Result<()> {
+        self.failed.take().map_or(Ok(()), Err)
     }
 
     /// Passes all rows that are ready to the sink.
@@ -307,9 +358,10 @@ impl<W: Write> Write for PreviewWriter<W> {
     ///
     /// # Errors
     ///
-    /// The sink's, or [`PreviewError::TooManyBytes`] of the kind [`InvalidInput`](io::ErrorKind::InvalidInput). None of `bytes` is taken then. A sink that fails
-    /// after some were taken is asked again by the next call, whose error it is if it fails again.
+    /// The sink's, or [`PreviewError::TooManyBytes`] of the kind [`InvalidInput`](io::ErrorKind::InvalidInput). None of `bytes` is taken then. Where the sink
+    /// fails after some were taken, the answer is how many, and the next call tells the error, whether or not the sink would take the row by then.
     fn write(&mut self, bytes: &[u8]) -> io::Result<usize> {
+        self.tell()?;
         self.pass_on()?;
         let mut taken = 0;
         while taken < bytes.len() {
@@ -318,7 +370,8 @@ impl<W: Write> Write for PreviewWriter<W> {
                 Err(why) if taken == 0 => return Err(why.into()),
                 Err(_) => break,
             }
-            if self.pass_on().is_err() {
+            if let Err(why) = self.pass_on() {
+                self.failed = Some(why);
                 break;
             }
         }
@@ -326,8 +379,68 @@ impl<W: Write> Write for PreviewWriter<W> {
     }
 
     /// Passes on the rows that the sink has not got, and flushes it.
+    ///
+    /// # Errors
+    ///
+    /// The sink's; first one that no call has told.
     fn flush(&mut self) -> io::Result<()> {
+        self.tell()?;
         self.pass_on()?;
         self.sink.flush()
+    }
+}
+
+/// Why a [`PreviewWriter`] did not give its sink back, with the writer, as [`std::io::IntoInnerError`] has it.
+pub struct IntoInnerError<W> {
+    writer: Box<PreviewWriter<W>>,
+    error: io::Error,
+}
+
+impl<W> IntoInnerError<W> {
+    fn new(writer: PreviewWriter<W>, error: io::Error) -> Self {
+        Self { writer: Box::new(writer), error }
+    }
+
+    /// The error.
+    #[must_use]
+    pub const fn error(&self) -> &io::Error {
+        &self.error
+    }
+
+    /// The error alone.
+    #[must_use]
+    pub fn into_error(self) -> io::Error {
+        self.error
+    }
+
+    /// The writer, to go on with.
+    pub fn into_inner(self) -> PreviewWriter<W> {
+        *self.writer
+    }
+
+    /// Both.
+    pub fn into_parts(self) -> (io::Error, PreviewWriter<W>) {
+        (self.error, *self.writer)
+    }
+}
+
+impl<W> fmt::Display for IntoInnerError<W> {
+    fn fmt(&self, f: &mut fmt::Formatter<'_>) -> fmt::Result {
+        self.error.fmt(f)
+    }
+}
+
+impl<W> fmt::Debug for IntoInnerError<W> {
+    /// The error alone: the writer's buffers tell nobody anything.
+    fn fmt(&self, f: &mut fmt::Formatter<'_>) -> fmt::Result {
+        f.debug_struct("IntoInnerError").field("error", &self.error).finish_non_exhaustive()
+    }
+}
+
+impl<W> std::error::Error for IntoInnerError<W> {}
+
+impl<W> From<IntoInnerError<W>> for io::Error {
+    fn from(why: IntoInnerError<W>) -> Self {
+        why.error
     }
 }

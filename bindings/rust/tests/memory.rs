@@ -1,4 +1,5 @@
 //! A preview allocates its source row, its work rows and its preview row, and nothing while it runs.
+#![cfg(feature = "std")]
 #![allow(unsafe_code)]
 
 use jonquilsaw::{Dimensions, PixelLayout, Preview, Rect};

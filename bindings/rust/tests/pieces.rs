@@ -1,38 +1,11 @@
 //! Previews of pictures whose bytes come in pieces, against the same picture scaled whole.
 
-use jonquilsaw::{Dimensions, Error, Image, PixelLayout, Preview, PreviewError, PreviewWriter, Rect};
-use std::io::{self, Write};
+#![cfg(feature = "std")]
 
-fn size(width: u32, height: u32) -> Dimensions {
-    Dimensions::new(width, height).unwrap()
-}
+mod pictures;
 
-/// Bytes that differ from place to place, alpha among them.
-fn bytes(len: usize) -> Vec<u8> {
-    (0..len as u32).map(|i| (i.wrapping_mul(2_654_435_769) >> 23) as u8).collect()
-}
-
-/// Growing, shrinking and equal sides on both axes; crops that leave rows above and below.
-fn cases() -> Vec<(Dimensions, PixelLayout, Rect, Dimensions)> {
-    let mut cases = Vec::new();
-    for (source, crop, target) in [
-        (size(2, 3), Rect::new(0, 0, 2, 3), size(1, 2)),
-        (size(2, 3), Rect::new(0, 0, 2, 3), size(3, 5)),
-        (size(3, 2), Rect::new(0, 0, 3, 2), size(3, 2)),
-        (size(3, 4), Rect::new(1, 1, 2, 2), size(2, 1)),
-        (size(2, 4), Rect::new(1, 1, 1, 2), size(2, 5)),
-        (size(1, 3), Rect::new(0, 0, 1, 1), size(1, 4)),
-    ] {
-        for layout in [PixelLayout::Rgba8, PixelLayout::Argb8, PixelLayout::Bgra8] {
-            cases.push((source, layout, crop, target));
-        }
-    }
-    cases
-}
-
-fn whole(source: Dimensions, layout: PixelLayout, crop: Rect, target: Dimensions, picture: &[u8]) -> Image {
-    Image::new(source, layout, picture.to_vec()).unwrap().crop(crop).unwrap().resize(target)
-}
+use jonquilsaw::{Dimensions, Error, PixelLayout, Preview, PreviewError, Rect};
+use pictures::{bytes, cases, size, whole};
 
 /// Pushes the pieces one after another and gathers the rows.
 fn gather<'a>(preview: &mut Preview, pieces: impl IntoIterator<Item = &'a [u8]>) -> Vec<u8> {
@@ -131,12 +104,9 @@ fn done_before_the_bytes_below_the_crop() {
 
 #[test]
 fn bad_sizes() {
-    for (crop, error) in [
-        (Rect::new(0, 0, 1, 0), Error::InvalidDimensions),
-        (Rect::new(1, 0, 2, 1), Error::CropOutOfBounds),
-        (Rect::new(0, u32::MAX, 1, 1), Error::CropOutOfBounds),
-    ] {
-        assert_eq!(Preview::new(size(2, 2), PixelLayout::Rgba8, crop, size(1, 1)).err(), Some(error));
+    for (crop, number) in [(Rect::new(0, 0, 1, 0), 1), (Rect::new(1, 0, 2, 1), 2), (Rect::new(0, u32::MAX, 1, 1), 2)] {
+        let why = Preview::new(size(2, 2), PixelLayout::Rgba8, crop, size(1, 1)).unwrap_err();
+        assert_eq!((why.number(), Err(why)), (number, crop.fits(size(2, 2))));
     }
 }
 
@@ -177,68 +147,25 @@ fn too_many_bytes_lose_nothing() {
     }
 }
 
-/// A sink that takes three bytes at a time and fails at every second call.
-#[derive(Default)]
-struct Slow {
-    got: Vec<u8>,
-    calls: u32,
-}
-
-impl Write for Slow {
-    fn write(&mut self, bytes: &[u8]) -> io::Result<usize> {
-        self.calls += 1;
-        if self.calls % 2 == 0 {
-            return Err(io::ErrorKind::WouldBlock.into());
-        }
-        let taken = bytes.len().min(3);
-        self.got.extend_from_slice(&bytes[..taken]);
-        Ok(taken)
-    }
-
-    fn flush(&mut self) -> io::Result<()> {
-        Ok(())
-    }
-}
-
 #[test]
-fn a_sink_that_fails_loses_nothing() {
-    for (source, layout, crop, target) in cases() {
-        let picture = bytes(source.byte_len());
-        let expected = whole(source, layout, crop, target, &picture);
-        for length in 1..=picture.len() {
-            let mut writer = PreviewWriter::new(Preview::new(source, layout, crop, target).unwrap(), Slow::default());
-            for mut piece in picture.chunks(length) {
-                while !piece.is_empty() {
-                    match writer.write(piece) {
-                        Ok(taken) => piece = &piece[taken..],
-                        Err(why) => assert_eq!(why.kind(), io::ErrorKind::WouldBlock),
-                    }
-                }
-            }
-            let flag = loop {
-                match writer.finish() {
-                    Ok(flag) => break flag,
-                    Err(why) => assert_eq!(why.kind(), io::ErrorKind::WouldBlock),
-                }
-            };
-            assert!(writer.is_done());
-            assert_eq!(flag, expected.has_alpha());
-            assert_eq!(writer.into_inner().got, expected.as_bytes());
-        }
+fn one_kind_of_error_serves_for_both() {
+    fn scaled(width: u32, picture: &[u8]) -> Result<Vec<u8>, PreviewError> {
+        let source = Dimensions::new(width, 1)?;
+        let mut preview = Preview::new(source, PixelLayout::Rgba8, Rect::of(source), Dimensions::new(1, 1)?)?;
+        let mut rows = Vec::new();
+        preview.feed(picture, |row| rows.extend_from_slice(row))?;
+        preview.finish()?;
+        Ok(rows)
     }
-}
-
-#[test]
-fn a_writer_says_what_is_wrong() {
-    let source = size(2, 2);
-    let picture = bytes(17);
-    let mut writer = PreviewWriter::new(Preview::new(source, PixelLayout::Rgba8, Rect::of(source), source).unwrap(), Vec::new());
-    writer.write_all(&picture[..11]).unwrap();
-    let early = writer.finish().unwrap_err();
-    assert_eq!((early.kind(), early.to_string()), (io::ErrorKind::UnexpectedEof, "the picture ends 5 bytes early".into()));
-    assert_eq!(writer.preview().missing(), 5);
-    let late = writer.write_all(&picture[11..]).unwrap_err();
-    assert_eq!((late.kind(), late.to_string()), (io::ErrorKind::InvalidInput, "there are more bytes than the picture has".into()));
-    assert!(writer.finish().unwrap());
-    assert_eq!(writer.get_ref(), whole(source, PixelLayout::Rgba8, Rect::of(source), source, &picture[..16]).as_bytes());
+    assert_eq!(scaled(1, &[1, 2, 3, 255]), Ok(vec![1, 2, 3, 255]));
+    assert_eq!(scaled(1, &[1, 2, 3]), Err(PreviewError::EndsEarly { missing: 1 }));
+    assert_eq!(scaled(1, &[1, 2, 3, 4, 5]), Err(PreviewError::TooManyBytes));
+    let refused = Dimensions::new(0, 1).unwrap_err();
+    assert_eq!(scaled(0, &[]), Err(PreviewError::Refused(refused)));
+    assert_eq!(scaled(0, &[]).unwrap_err().to_string(), "the width is 0: a side is 1 to 16384");
+    for why in [Error::RowReady, Error::AllAccepted, Error::NoneReady, refused] {
+        assert_eq!(Error::try_from(PreviewError::from(why)), Ok(why));
+    }
+    let early = PreviewError::EndsEarly { missing: 1 };
+    assert_eq!(Error::try_from(early), Err(early));
 }

@@ -1,8 +1,8 @@
 -- Fixed point against the true quotient: how far MULT, FLOOR and FRAC are off (MATHEMATICS 1.1, 2, 3), and that they are monotone (6). Assumes nothing.
-use Prim.Native.Nat.{ℕ, zero, suc, _+_, _*_, _-_, _/_, _%_, _^_, _≤_, _<_}
-use mathlib.Core.Path.{_≡_, refl, ap}
+use Prim.Native.Nat.{ℕ, zero, suc, _+_, _*_, _/_, _%_, _^_, _≤_, _<_}
+use mathlib.Core.Path.{_≡_, ap}
 use native.Mathlib.Omega.{arith}
-use native.Mathlib.Nat.{mul-le-mul, mul-le-mul-left, mul-le-mul-right, mod-eq-of-lt, mod-lt, lt-of-mul-lt-mul-right, le-trans, le-of-lt, le-dest, mul-zero, mul-lt-mul-of-pos-right, div-zero}
+use native.Mathlib.Nat.{mul-le-mul, mul-le-mul-left, mul-le-mul-right, mod-eq-of-lt, lt-of-mul-lt-mul-right, le-of-lt, le-dest, mul-zero, div-zero}
 use Rattle.arithmetic.specs.FixedPoint.{MULT, FLOOR, FRAC}
 use Rattle.arithmetic.proofs.Quotients.{div-low, div-high}
 
@@ -94,18 +94,6 @@ place-high x g S = round-high x (g * 2 ^ 32 / S) g S (div-low (g * 2 ^ 32) S)
 pub place-low : (x g S : ℕ) → 0 < S → 2 ^ 32 * (2 * (x * g)) ≤ 2 ^ 32 * (2 * (MULT x (g * 2 ^ 32 / S) * S) + S) + 2 * (x * S)
 place-low x g S p = round-low x (g * 2 ^ 32 / S) g S (le-of-lt (div-high (g * 2 ^ 32) S p))
 
-pub place-low-32 : (x g S : ℕ) → 0 < S → x < 2 ^ 32 → 2 * (x * g) < 2 * (MULT x (g * 2 ^ 32 / S) * S) + 3 * S
-place-low-32 x g S p b = omega (arith, place-low x g S p, mul-lt-mul-of-pos-right b p)
-
-pub place-byte : (x g S : ℕ) → 0 < S → x * g ≤ 255 * S → MULT x (g * 2 ^ 32 / S) ≤ 255
-place-byte x g S p b =
-    let q : MULT x (g * 2 ^ 32 / S) * S < 256 * S = omega (arith, place-high x g S) in
-    omega (arith, lt-of-mul-lt-mul-right S q)
-
--- the ratio itself fits 32 bits where g < S
-pub ratio-fits : (g S : ℕ) → g < S → g * 2 ^ 32 / S < 2 ^ 32
-ratio-fits g S h = lt-of-mul-lt-mul-right S (omega (arith, div-low (g * 2 ^ 32) S, mul-le-mul-right (2 ^ 32) h))
-
 -- ---- B4: monotone
 pub MULT-mono : {a a' b b' : ℕ} → a ≤ a' → b ≤ b' → MULT a b ≤ MULT a' b'
 unfolding MULT
@@ -125,9 +113,6 @@ left-mono v w s h k =
     let (e, p) = le-dest k in
     let q : w * s ≡ v * s + e * s = omega (arith, ap (λ (t : ℕ). t * s) p) in
     omega (arith, mul-le-mul-left e h)
-
-pub left-mono' : (v w s : ℕ) → s ≤ 2 ^ 32 → v ≤ w → v - FLOOR v s ≤ w - FLOOR w s
-left-mono' v w s h k = omega (arith, left-mono v w s h k, FLOOR-le v s h, FLOOR-le w s h)
 
 -- ---- a denominator of 0
 pub frac-zero : (a : ℕ) → FRAC a 0 ≡ 0

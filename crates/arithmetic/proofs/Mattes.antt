@@ -1,7 +1,7 @@
 -- Matting and restoring. The lanes of a pixel; one form of the scaled colour for every alpha, its bounds and monotony (MATHEMATICS 6); and from these
 -- that no lane spills in matting, nor in restoring a pixel whose colours are at most its alpha. Assumes nothing.
 use Prim.Native.Nat.{ℕ, zero, suc, _+_, _*_, _/_, _%_, _^_, _≤_, _<_}
-use mathlib.Core.Path.{_≡_, refl, sym, ap, ap₂, _∙_}
+use mathlib.Core.Path.{_≡_, refl, sym, ap, _∙_}
 use mathlib.Core.Bool.{Bool, true, false, cond}
 use mathlib.Core.Logic.{⊎-elim}
 use native.Mathlib.Omega.{arith}
@@ -50,10 +50,6 @@ pixel-lane p h k l = at k l (h 0 (omega arith)) (h 1 (omega arith)) (h 2 (omega 
     at (suc (suc (suc zero))) l b g r a = omega arith
     at (suc (suc (suc (suc k)))) l b g r a = absurd (omega arith)
 
-pub pixel-word : (p : ℕ → ℕ) → ((k : ℕ) → k < 4 → p k ≤ 255) → pixelOf p < 2 ^ 32
-unfolding pixelOf
-pixel-word p h = omega (arith, h 0 (omega arith), h 1 (omega arith), h 2 (omega arith), h 3 (omega arith))
-
 -- the same lanes, the same pixel
 pub pixel-cong : (p q : ℕ → ℕ) → ((k : ℕ) → k < 4 → p k ≡ q k) → pixelOf p ≡ pixelOf q
 unfolding pixelOf
@@ -92,22 +88,6 @@ pub scale-clear : (inverse : Bool) (c : ℕ) → scaleColour c (factorOf inverse
 unfolding scaleColour factorOf matteFactor restoreFactor
 scale-clear true c = rw (div-zero (255 * 2 ^ 24)) (omega arith)
 scale-clear false c = omega arith
-
-pub restore-opaque : (c : ℕ) → c ≤ 255 → scaleColour c (restoreFactor 255) ≡ c
-unfolding factorOf
-restore-opaque = scale-opaque true
-
-pub restore-clear : (c : ℕ) → scaleColour c (restoreFactor 0) ≡ 0
-unfolding factorOf
-restore-clear = scale-clear true
-
-pub matte-opaque : (c : ℕ) → c ≤ 255 → scaleColour c (matteFactor 255) ≡ c
-unfolding factorOf
-matte-opaque = scale-opaque false
-
-pub matte-clear : (c : ℕ) → scaleColour c (matteFactor 0) ≡ 0
-unfolding factorOf
-matte-clear = scale-clear false
 
 -- a matted colour is at most its alpha: 65793 × 255 is 2^24 - 1
 pub matte-most : (c a : ℕ) → c ≤ 255 → scaleColour c (matteFactor a) ≤ a

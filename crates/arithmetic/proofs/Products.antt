@@ -1,8 +1,8 @@
 -- Products of numbers that vary: facts to hand to omega, which multiplies out but multiplies no hypothesis. Assumes nothing.
-use Prim.Native.Nat.{ℕ, _+_, _*_, _-_, _^_, _≤_, _<_}
-use mathlib.Core.Path.{_≡_, ap, ap₂, _∙_}
+use Prim.Native.Nat.{ℕ, _+_, _*_, _^_, _≤_, _<_}
+use mathlib.Core.Path.{_≡_, ap}
 use native.Mathlib.Omega.{arith}
-use native.Mathlib.Nat.{mul-comm, mul-le-mul, mul-le-mul-right, mul-sub, le-dest}
+use native.Mathlib.Nat.{mul-le-mul, le-dest}
 
 -- an equation times a factor, for a list: omega (arith, times k e)
 pub times : (k : ℕ) {a b : ℕ} → a ≡ b → k * a ≡ k * b
@@ -14,13 +14,6 @@ cross {a} {b} {c} {d} h k =
     let (x, p) = le-dest h in
     let (y, q) = le-dest k in
     rw (← p, ← q) (omega arith)
-
--- a difference under a product
-pub sub-mul : (a b c : ℕ) → (a - b) * c ≡ a * c - b * c
-sub-mul a b c = mul-comm (a - b) c ∙ mul-sub c a b ∙ ap₂ _-_ (mul-comm c a) (mul-comm c b)
-
-pub sub-mul-le : (a b c : ℕ) → b ≤ a → (a - b) * c + b * c ≡ a * c
-sub-mul-le a b c h = omega (arith, sub-mul a b c, mul-le-mul-right c h)
 
 -- two numbers of 32 bits: the product and a half fit 64
 pub most : {x y : ℕ} → x < 2 ^ 32 → y < 2 ^ 32 → x * y ≤ 0xffff_fffe_0000_0001

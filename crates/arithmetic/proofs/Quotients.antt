@@ -1,8 +1,8 @@
 -- Quotients by a variable, rounded down and up. For omega such a quotient is an unknown: these are the facts to hand to it. Assumes nothing.
-use Prim.Native.Nat.{ℕ, _+_, _*_, _-_, _/_, _%_, _≤_, _<_}
-use mathlib.Core.Path.{_≡_, ap}
+use Prim.Native.Nat.{ℕ, _+_, _*_, _-_, _/_, _≤_, _<_}
+use mathlib.Core.Path.{_≡_}
 use native.Mathlib.Omega.{arith}
-use native.Mathlib.Nat.{mul-le-mul-left, mul-le-mul-right, le-trans, div-add-mod, mod-lt, lt-of-mul-lt-mul-right, le-div-iff-mul-le, div-lt-iff-lt-mul, div-eq-of-lt-le}
+use native.Mathlib.Nat.{le-trans, div-add-mod, mod-lt, lt-of-mul-lt-mul-right, le-div-iff-mul-le, div-lt-iff-lt-mul, div-eq-of-lt-le}
 use Rattle.arithmetic.specs.Quotient.{ceil}
 
 -- ---- rounded down
@@ -18,9 +18,6 @@ div-is d h k = div-eq-of-lt-le d h (omega arith)
 
 pub div-mono : {x y : ℕ} (d : ℕ) → 0 < d → x ≤ y → x / d ≤ y / d
 div-mono {x} {y} d p h = le-div-iff-mul-le p .1 (le-trans (div-low x d) h)
-
-pub div-anti : (x : ℕ) {c d : ℕ} → 0 < c → c ≤ d → x / d ≤ x / c
-div-anti x {c} {d} p h = le-div-iff-mul-le p .1 (le-trans (mul-le-mul-left (x / d) h) (div-low x d))
 
 pub div-bound : {x k : ℕ} (d : ℕ) → 0 < d → x < k * d → x / d < k
 div-bound d p h = div-lt-iff-lt-mul p .1 h

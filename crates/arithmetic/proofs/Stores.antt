@@ -1,7 +1,7 @@
 -- A loop that stores one entry of a table a turn: the invariant of every storing loop here, from its first turn to its last. Assumes nothing.
-use Prim.Native.Nat.{ℕ, suc, _+_, _-_, _≤_, _<_}
+use Prim.Native.Nat.{ℕ, _+_, _≤_, _<_}
 use mathlib.Core.Path.{_≡_, refl, sym, ap, _∙_, subst}
-use mathlib.Core.List.{List, [], _++_, append-nil}
+use mathlib.Core.List.{List, _++_, append-nil}
 use native.Mathlib.Omega.{arith}
 use native.Mathlib.Nat.{le-dest, add-zero}
 use native.Mathlib.Numerals.{add-one}
@@ -67,3 +67,11 @@ module _ {f : ℕ → ℕ} {s₀ s : List ℕ} {w k : ℕ} (i : Stored f s₀ s 
   filled l h =
       let short : length s₀ ≤ w = omega arith in
       all-stored h ∙ ap (λ (t : List ℕ). tabulate f w ++ t) (drop-of-length-le s₀ short) ∙ append-nil (tabulate f w)
+
+-- four entries a turn, as the lanes of a pixel are stored
+pub store-four : {f : ℕ → ℕ} {s₀ s : List ℕ} {w k : ℕ} {a b c d : ℕ} → Stored f s₀ s w k → k + 4 ≤ w → a ≡ f k → b ≡ f (k + 1) → c ≡ f (k + 2) → d ≡ f (k + 3)
+    → Stored f s₀ (set (set (set (set s k a) (k + 1) b) (k + 2) c) (k + 3) d) w (k + 4)
+store-four {k = k} i h p q r t =
+    let two = place (store (store i (omega arith) p) (omega arith) q) (k + 2) (omega arith) in
+    let three = place (store two (omega arith) r) (k + 3) (omega arith) in
+    place (store three (omega arith) t) (k + 4) (omega arith)

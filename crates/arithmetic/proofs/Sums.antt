@@ -74,10 +74,6 @@ sum-term p a n i l u =
     let at : p (a + x) ≡ p i = ap p e in
     omega (arith, ap (sum p a) n-is, sum-split p a (suc x) y, sum-suc p a x)
 
--- an error of at most e at each
-pub sum-error : (p q : ℕ → ℕ) (e a n : ℕ) → ((i : ℕ) → a ≤ i → i < a + n → p i ≤ q i + e) → sum p a n ≤ sum q a n + n * e
-sum-error p q e a n h = omega (arith, sum-mono p (λ i. q i + e) a n h, sum-add q (λ i. e) a n, sum-const e a n)
-
 -- two sums change places
 pub sum-swap : (f : ℕ → ℕ → ℕ) (a m b n : ℕ) → sum (λ i. sum (f i) b n) a m ≡ sum (λ j. sum (λ i. f i j) a m) b n
 unfolding sum
@@ -99,11 +95,7 @@ sum-within p a b n h before after =
     let z' : sum p (0 + (a + b)) c ≡ sum p (a + b) c = ap (λ (t : ℕ). sum p t c) (zero-add (a + b)) in
     omega (arith, sum-split p 0 (a + b) c, sum-split p 0 a b)
 
--- a weighted sum lies between the least and the greatest term times the weights' total
+-- a weighted sum is at most the greatest term times the weights' total
 pub sum-weighted-le : (w p : ℕ → ℕ) (k a n : ℕ) → ((i : ℕ) → a ≤ i → i < a + n → p i ≤ k) → sum (λ i. w i * p i) a n ≤ k * sum w a n
 sum-weighted-le w p k a n h =
     rw (← (sum-scale k w a n)) (sum-mono (λ i. w i * p i) (λ i. k * w i) a n (λ i l u. omega (arith, mul-le-mul-left (w i) (h i l u))))
-
-pub sum-weighted-ge : (w p : ℕ → ℕ) (k a n : ℕ) → ((i : ℕ) → a ≤ i → i < a + n → k ≤ p i) → k * sum w a n ≤ sum (λ i. w i * p i) a n
-sum-weighted-ge w p k a n h =
-    rw (← (sum-scale k w a n)) (sum-mono (λ i. k * w i) (λ i. w i * p i) a n (λ i l u. omega (arith, mul-le-mul-left (w i) (h i l u))))

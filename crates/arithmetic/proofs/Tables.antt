@@ -1,12 +1,12 @@
 -- Laws of `tabulate`: its length, its entries, one more entry stored, and when two tables are the same. Assumes nothing.
-use Prim.Native.Nat.{ℕ, zero, suc, _+_, _-_, _≤_, _<_}
+use Prim.Native.Nat.{ℕ, zero, suc, _+_, _<_}
 use mathlib.Core.Path.{_≡_, refl, sym, ap, ap₂, _∙_}
 use mathlib.Core.List.{List, [], _∷_, _++_, append-assoc}
 use mathlib.Core.Logic.{⊎-elim}
 use native.Mathlib.Omega.{arith}
 use native.Mathlib.Nat.{le-of-suc-le-suc, eq-or-lt-of-le}
-use lib.ListN.{List·getD-append, length, getD, set, drop, take, length-append, length-drop}
-use lib.Seq.{drop-cons, set-at, getD-at, getD-append-add, getD-drop, ext-getD, take-at, drop-at}
+use lib.ListN.{List·getD-append, length, getD, set, drop, length-append}
+use lib.Seq.{drop-cons, set-at, getD-at, getD-append-add, ext-getD, drop-at}
 use Rattle.arithmetic.specs.Table.{tabulate}
 
 pub length-tabulate : (f : ℕ → ℕ) (n : ℕ) → length (tabulate f n) ≡ n
@@ -56,8 +56,5 @@ tabulate-is f s h =
     (λ i l. h i l ∙ sym (getD-tabulate f (length s) i l))
 
 -- ---- parts
-pub take-table : (f : ℕ → ℕ) (n : ℕ) (s : List ℕ) → take n (tabulate f n ++ s) ≡ tabulate f n
-take-table f n s = take-at (tabulate f n) s n (length-tabulate f n)
-
 pub drop-table : (f : ℕ → ℕ) (n : ℕ) (s : List ℕ) → drop n (tabulate f n ++ s) ≡ s
 drop-table f n s = drop-at (tabulate f n) s n (length-tabulate f n)

@@ -1,12 +1,10 @@
 -- The weights of one axis, n steps to m: their totals, where they are 0, and their weighted sum as a loop computes it. Source step i is
 -- [i × m, (i + 1) × m) and output step j is [j × n, (j + 1) × n) where the axis shrinks; a tent over two source steps where it grows. Assumes nothing.
-use Prim.Native.Nat.{ℕ, zero, suc, _+_, _*_, _-_, _/_, _≤_, _<_, min, max}
-use mathlib.Core.Path.{_≡_, refl, sym, _∙_, ap, ap₂}
-use mathlib.Core.Bool.{Bool, true, false, cond}
+use Prim.Native.Nat.{ℕ, zero, suc, _+_, _*_, _-_, _/_, _≤_, _<_, min}
+use mathlib.Core.Path.{_≡_, sym, _∙_, ap, ap₂}
 use mathlib.Core.Logic.{_⊎_, inl, inr}
 use native.Mathlib.Omega.{arith}
-use native.Mathlib.Nat.{add-mul, mul-add, zero-mul, zero-add, le-dest, mul-le-mul-left, mul-le-mul-right, lt-of-mul-lt-mul-right, div-add-mod, mod-lt, eq-or-lt-of-le}
-use lib.Dec.{leb}
+use native.Mathlib.Nat.{add-mul, mul-add, zero-mul, zero-add, le-dest, mul-le-mul-right, lt-of-mul-lt-mul-right, div-add-mod, mod-lt, eq-or-lt-of-le}
 use borrow.Author.Tests.{le-leb, lt-leb}
 use Rattle.arithmetic.specs.Sum.{sum}
 use Rattle.arithmetic.specs.Weight.{span, overlap, shrinkWeight, distance, growWeight, weight}
@@ -46,11 +44,7 @@ shrink-total n m j h =
     steps m (j * n) (suc j * n) n (omega arith)
     ∙ (let e : suc j * n ≤ n * m = omega (arith, mul-le-mul-right n h) in omega arith)
 
--- beside its step a weight is 0
-pub shrink-before : (n m j i : ℕ) → suc i * m ≤ j * n → shrinkWeight n m j i ≡ 0
-unfolding shrinkWeight
-shrink-before n m j i h = omega arith
-
+-- past its step a weight is 0
 pub shrink-after : (n m j i : ℕ) → suc j * n ≤ i * m → shrinkWeight n m j i ≡ 0
 unfolding shrinkWeight
 shrink-after n m j i h = omega arith

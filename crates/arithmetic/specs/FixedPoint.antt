@@ -1,4 +1,4 @@
--- Fixed point with 32 bits of fraction (document 01, "Fixed point and matting"). "Quotients round down." Assumes nothing.
+-- Fixed point with 32 bits of fraction (SCOPE, "Fixed point and matting"). "Quotients round down." Assumes nothing.
 use Prim.Native.Nat.{ℕ, _+_, _*_, _/_, _%_, _^_}
 
 -- libwebp's MULT_FIX: rounded to the nearest

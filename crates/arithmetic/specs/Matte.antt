@@ -1,4 +1,4 @@
--- Matting and restoring a pixel AARRGGBB (document 01, "Fixed point and matting"; libwebp's WebPMultARGBRow_C). Assumes nothing.
+-- Matting and restoring a pixel AARRGGBB (SCOPE, "Fixed point and matting"; libwebp's WebPMultARGBRow_C). Assumes nothing.
 use Prim.Native.Nat.{ℕ, _+_, _*_, _/_, _%_, _^_}
 use mathlib.Core.Bool.{Bool, cond}
 use lib.Dec.{eqb}

@@ -1,6 +1,6 @@
--- Quotients. `/` rounds down; document 01's ceil rounds up. Assumes nothing.
+-- Quotients. `/` rounds down; SCOPE's ceil rounds up. Assumes nothing.
 use Prim.Native.Nat.{ℕ, _+_, _-_, _/_}
 
--- document 01's ceil(x / d), for d above 0
+-- SCOPE's ceil(x / d), for d above 0
 unfoldable pub ceil : ℕ → ℕ → ℕ
 ceil x d = (x + (d - 1)) / d

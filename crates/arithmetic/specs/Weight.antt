@@ -1,9 +1,9 @@
--- The weights of one axis, n source steps to m output steps (document 01, "A row comes in" and "Exact mean"). Assumes nothing.
+-- The weights of one axis, n source steps to m output steps (SCOPE, "A row comes in" and "Exact mean"). Assumes nothing.
 use Prim.Native.Nat.{ℕ, suc, _-_, _*_, min, max}
 use mathlib.Core.Bool.{cond}
 use lib.Dec.{leb}
 
--- document 01's span, which is also the total of an output step's weights: n if m ≤ n, else m - 1
+-- SCOPE's span, which is also the total of an output step's weights: n if m ≤ n, else m - 1
 unfoldable pub span : ℕ → ℕ → ℕ
 span n m = cond (leb m n) n (m - 1)
 

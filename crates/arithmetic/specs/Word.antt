@@ -1,4 +1,4 @@
--- Work values (document 01, "Fixed point and matting"): they "are 32-bit and wrap", so a sum, a difference and a product are taken modulo 2^32.
+-- Work values (SCOPE, "Fixed point and matting"): they "are 32-bit and wrap", so a sum, a difference and a product are taken modulo 2^32.
 -- Assumes nothing.
 use Prim.Native.Nat.{ℕ, _+_, _-_, _*_, _%_, _^_}
 

@@ -1,4 +1,4 @@
-// Fixed-point arithmetic of libwebp's rescaler (document 01, "Fixed point and matting"; the Rust: geometry.rs).
+// Fixed-point arithmetic of libwebp's rescaler (SCOPE, "Fixed point and matting"; the Rust: geometry.rs).
 // Every function answers for all arguments.
 mod matting;
 

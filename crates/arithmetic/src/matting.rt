@@ -1,4 +1,4 @@
-// Matting and restoring a pixel AARRGGBB (document 01, "Fixed point and matting"; the Rust: geometry.rs, libwebp's WebPMultARGBRow_C).
+// Matting and restoring a pixel AARRGGBB (SCOPE, "Fixed point and matting"; the Rust: geometry.rs, libwebp's WebPMultARGBRow_C).
 ghost use mathlib.Core.Path.{_≡_};
 ghost use Prim.Native.Nat.{_<_};
 ghost use Rattle.arithmetic.specs.Matte.{matteFactor, restoreFactor, factorOf, scaleColour, multArgb};

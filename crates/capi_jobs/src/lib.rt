@@ -1,5 +1,5 @@
 // The library for C (include/jonquilsaw.h), the calls of a job: numbers and slices only. In C a slice is a pointer, then a count of elements.
-// Every function answers for all arguments: 0 where the call was accepted, document 01's number where it was refused, and BOUNDARY for what only
+// Every function answers for all arguments: 0 where the call was accepted, SCOPE's number where it was refused, and BOUNDARY for what only
 // this boundary can be asked, tested first.
 use capi_record::RECORD_WORDS;
 use capi_record::Told;
@@ -20,7 +20,7 @@ ghost use lib.ListN.{length};
 ghost use Rattle.capi_jobs.specs.Jobs.{numberOfStart, workAfterStart, recordAfterStart, numberOfOffer, recordAfterOffer, workAfterOffer, countAfterOffer, numberOfTake, recordAfterTake, outAfterTake, workAfterTake};
 
 // A fresh job: its record in lent words, and the work rows cleared.
-// Rules out: a record stored although the call was refused; a word after the record's last touched; crop and target exchanged.
+// Rules out: source and target exchanged; eleven words enough for the record.
 #[no_mangle]
 pub extern "C" fn jonquilsaw_start(
     source_width: u32,
@@ -67,7 +67,7 @@ pub extern "C" fn jonquilsaw_start(
 }
 
 // Offers source rows to the job that the record's words tell; how many were accepted in one lent word.
-// Rules out: a count that is not stored; the record's words moved on by a refused call; a layout word of 3 read as some layout.
+// Rules out: a count of 0 stored always; two words asked for the count.
 #[no_mangle]
 pub extern "C" fn jonquilsaw_offer(
     record: &mut [u32],
@@ -99,7 +99,7 @@ pub extern "C" fn jonquilsaw_offer(
 }
 
 // Takes the next preview row of the job that the record's words tell.
-// Rules out: a row written and the record's words left; a row written by a refused call.
+// Rules out: a row written and the record's words left; every refusal told as 9.
 #[no_mangle]
 pub extern "C" fn jonquilsaw_take(record: &mut [u32], out: &mut [u8], work: &mut [u32]) -> u32
     ensures number { λ r. ⌜ r ≡ numberOfTake (now («record» .entry)) (length (now (out .entry))) (length (now (work .entry))) ⌝ }

@@ -1,5 +1,5 @@
 // The library for C (include/jonquilsaw.h), whole pictures: numbers and slices only. In C a slice is a pointer, then a count of elements.
-// Every function answers for all arguments: 0 where the call was accepted, document 01's number where it was refused, and BOUNDARY for what only
+// Every function answers for all arguments: 0 where the call was accepted, SCOPE's number where it was refused, and BOUNDARY for what only
 // this boundary can be asked, tested first.
 use capi_words::BOUNDARY;
 use capi_words::flag_word;
@@ -33,7 +33,7 @@ fn store_flag(answer: Flagged, flag: &mut [u32]) -> u32
 // ---- the exported functions
 
 // The alpha flag of a picture, 0 or 1, in one lent word.
-// Rules out: the flag stored although the call was refused; 1 told before the boundary's number; a flag word other than 0 or 1.
+// Rules out: a layout word that names none let through; the picture taken for a square; the first layout read for every word.
 #[no_mangle]
 pub extern "C" fn jonquilsaw_has_alpha(
     width: u32,
@@ -57,7 +57,7 @@ pub extern "C" fn jonquilsaw_has_alpha(
 }
 
 // The crop of a picture, and its flag in one lent word.
-// Rules out: the crop's corner and its size exchanged; rows written although the call was refused; the flag word left as it was.
+// Rules out: the corner's x and y exchanged; the first layout read for every word.
 #[no_mangle]
 pub extern "C" fn jonquilsaw_crop(
     source_width: u32,
@@ -93,7 +93,7 @@ pub extern "C" fn jonquilsaw_crop(
 }
 
 // A whole picture scaled, and its flag in one lent word.
-// Rules out: source and target exchanged; the picture written although the call was refused; the flag word left as it was.
+// Rules out: source and target exchanged; the first layout read for every word.
 #[no_mangle]
 pub extern "C" fn jonquilsaw_resize(
     source_width: u32,
@@ -127,7 +127,7 @@ pub extern "C" fn jonquilsaw_resize(
 }
 
 // Writes a plane's bytes to the alpha bytes of a picture, and the flag of the picture so made in one lent word.
-// Rules out: a colour written; the flag of the pixels before.
+// Rules out: the picture taken for a square; the first layout read for every word.
 #[no_mangle]
 pub extern "C" fn jonquilsaw_apply_alpha_plane(
     width: u32,
@@ -154,7 +154,7 @@ pub extern "C" fn jonquilsaw_apply_alpha_plane(
 }
 
 // The size that a picture scales to, width and height in two lent words; a target side of 0 is derived from the other.
-// Rules out: the two words exchanged; a size stored although the call was refused.
+// Rules out: the two words exchanged; a size stored where one word is lent.
 #[no_mangle]
 pub extern "C" fn jonquilsaw_scaled(
     width: u32,

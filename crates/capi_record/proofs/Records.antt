@@ -17,6 +17,7 @@ use Rattle.capi_record.specs.declared.Told.the-variants as told
 use Rattle.capi_words.specs.Words.{isLayout, wordLayout, layoutWord, isFlag, wordFlag, flagWord, stored}
 use Rattle.capi_record.specs.Record.{recordLength, recordWords, wordsJob, wordsLegal, toldBy, storedJob}
 use Rattle.capi_words.proofs.Words.{stored-enough}
+use Rattle.pixels.proofs.Truths.{both-true}
 
 -- ---- a layout and a flag
 pub layout-back : (l : PixelLayout) → wordLayout (layoutWord l) ≡ l
@@ -48,7 +49,7 @@ flag-word zero e = refl
 flag-word (suc zero) e = refl
 flag-word (suc (suc word)) e = absurd (omega (arith, leb-true (suc (suc word)) 1 e))
 
--- ---- reading what was written
+-- ---- reading what was written: the words of any record are legal and make that record again. With `written-read` an end in itself: nothing is lost in words
 pub words-legal : (j : Job) (rest : List ℕ) → wordsLegal (recordWords j ++ rest) ≡ true
 unfolding recordWords wordsLegal
 words-legal j rest =
@@ -60,10 +61,6 @@ unfolding recordWords wordsJob
 read-written j rest = rw (layout-back, flag-back) refl
 
 -- ---- writing what was read
-both : (a b : Bool) → (a && b) ≡ true → (a ≡ true) × (b ≡ true)
-both true b e = (refl, e)
-both false b e = absurd (true≢false (sym e))
-
 -- what legal words are known by
 pub record Legal (words : List ℕ) : Type 0 where
   pub enough : recordLength ≤ length words
@@ -75,8 +72,8 @@ unfolding wordsLegal
 legal-of words e =
     let long = leb recordLength (length words) in
     let layout = isLayout (getD words 2 0) in
-    let a = both (long && layout) (isFlag (getD words 11 0)) e in
-    let b = both long layout (a .0) in
+    let a = both-true (long && layout) (isFlag (getD words 11 0)) e in
+    let b = both-true long layout (a .0) in
     record { enough = leb-true recordLength (length words) (b .0); layout = b .1; flag = a .1 }
 
 -- ---- the tests in their order
@@ -92,7 +89,9 @@ pub flag-decides : (words : List ℕ) → recordLength ≤ length words → getD
 unfolding wordsLegal
 flag-decides words h k = simp (le-leb recordLength (length words) h, lt-ltb (getD words 2 0) 3 k)
 
-twelve : (words : List ℕ) → recordLength ≤ length words → words ≡ getD words 0 0 ∷ getD words 1 0 ∷ getD words 2 0 ∷ getD words 3 0 ∷ getD words 4 0 ∷ getD words 5 0 ∷ getD words 6 0 ∷ getD words 7 0 ∷ getD words 8 0 ∷ getD words 9 0 ∷ getD words 10 0 ∷ getD words 11 0 ∷ drop 12 words
+twelve : (words : List ℕ) → recordLength ≤ length words
+    → words
+    ≡ getD words 0 0 ∷ getD words 1 0 ∷ getD words 2 0 ∷ getD words 3 0 ∷ getD words 4 0 ∷ getD words 5 0 ∷ getD words 6 0 ∷ getD words 7 0 ∷ getD words 8 0 ∷ getD words 9 0 ∷ getD words 10 0 ∷ getD words 11 0 ∷ drop 12 words
 twelve words h =
     let d0 : words ≡ getD words 0 0 ∷ drop 1 words = at 0 (lit< tt) in
     let d1 : drop 1 words ≡ getD words 1 0 ∷ drop 2 words = at 1 (lit< tt) in
@@ -111,6 +110,7 @@ twelve words h =
     at : (i : ℕ) → i < recordLength → drop i words ≡ getD words i 0 ∷ drop (suc i) words
     at i k = drop-cons words i 0 (omega arith)
 
+-- an end in itself: legal words are stored as they were read
 pub written-read : (words : List ℕ) → wordsLegal words ≡ true → storedJob (wordsJob words) words ≡ words
 unfolding recordWords wordsJob
 written-read words e =

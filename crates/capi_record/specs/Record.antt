@@ -1,4 +1,4 @@
--- The record as words (document 01, "The job": source size, layout, crop, target, rows accepted, rows taken, the flag so far). Words after the last are the
+-- The record as words (SCOPE, "The job": source size, layout, crop, target, rows accepted, rows taken, the flag so far). Words after the last are the
 -- caller's. Assumes nothing.
 use Prim.Native.Nat.{ℕ}
 use mathlib.Core.Bool.{Bool, cond, _&&_}

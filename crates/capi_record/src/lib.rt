@@ -81,7 +81,7 @@ fn job_of(words: &[u32]) -> Job
 }
 
 // The record that words tell; whether it meets the rules is for the job to say.
-// Rules out: a record of too few words; a flag word other than 0 or 1 or a layout word above 2 read as some value; two words exchanged.
+// Rules out: a record of eleven words; a flag word of 2 read as a flag; two words exchanged.
 pub fn read_job(words: &[u32]) -> Told
     ensures { λ r. ⌜ r ≡ toldBy (now (words .entry)) ⌝ }
 {
@@ -92,7 +92,7 @@ pub fn read_job(words: &[u32]) -> Told
 }
 
 // Stores the words of a record; fewer words than it takes stay as they were.
-// Rules out: a word at another place than it is read from; a word after the record's last touched.
+// Rules out: a word at another place than it is read from; a flag that is not stored.
 pub fn store_job(job: Job, words: &mut [u32])
     ensures { λ _. ⌜ now (words .exit) ≡ storedJob job (now (words .entry)) ⌝ }
 {

@@ -3,12 +3,11 @@ use Prim.Native.Nat.{ℕ, _≤_}
 use mathlib.Core.Path.{_≡_, refl, sym, _∙_}
 use mathlib.Core.Bool.{Bool, true, false, cond}
 use mathlib.Core.List.{List}
-use native.Mathlib.Omega.{arith}
 use lib.Dec.{eqb}
-use borrow.Author.Tests.{le-ltb, ne-eqb}
+use borrow.Author.Tests.{le-ltb}
 use Rattle.pixels.specs.declared.Refusal.{Refusal}
 use Rattle.pixels.specs.Refusals.{number, bufferIf}
-use Rattle.pixels.proofs.Numbers.{number-pos}
+use Rattle.pixels.proofs.Numbers.{not-zero}
 use Rattle.capi_words.specs.Boundary.{boundary, boundaryFirst, misused}
 
 pub misused-layout : (layout lent need : ℕ) → 3 ≤ layout → true ≡ misused layout lent need
@@ -17,7 +16,7 @@ misused-layout layout lent need h = simp (le-ltb layout 3 h)
 -- ---- buffers
 -- a refusal's number keeps a buffer
 pub kept-by : (why : Refusal) (n : ℕ) (written kept : List ℕ) → n ≡ number why → kept ≡ bufferIf n written kept
-kept-by why n written kept e = simp (ne-eqb n 0 (λ z. omega (arith, number-pos why)))
+kept-by why n written kept e = simp (not-zero why n e)
 
 -- 0 has it written
 pub written-by : (n : ℕ) (words written kept : List ℕ) → 0 ≡ n → words ≡ written → words ≡ bufferIf n written kept

@@ -6,7 +6,7 @@ use lib.Dec.{ltb}
 use Rattle.pixels.specs.declared.Dimensions.{Dimensions}
 use Rattle.capi_words.specs.Words.{isLayout, flagWord, stored}
 
--- the boundary's own number, above every number of documents 01 and 02: a layout argument that is none, or an answer slice that is too short
+-- the boundary's own number, above every number of SCOPE: a layout argument that is none, or an answer slice that is too short
 abbrev pub boundary : ℕ
 boundary = 100
 

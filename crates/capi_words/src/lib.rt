@@ -8,7 +8,7 @@ ghost use Rattle.capi_words.specs.Boundary.{misused};
 // Layouts are numbered from 0 in the order of PixelLayout.
 pub const LAYOUTS: u32 = 3;
 
-// Above every number of documents 01 and 02: a layout argument that is none, or an answer slice that is too short.
+// Above every number of SCOPE: a layout argument that is none, or an answer slice that is too short.
 pub const BOUNDARY: u32 = 100;
 
 // ---- words
@@ -36,7 +36,7 @@ pub fn flag_word(flag: bool) -> u32
 }
 
 // Stores an answer in lent words, from the first on; fewer words than it has stay as they were.
-// Rules out: an answer cut short; a word after the answer's last touched.
+// Rules out: the answer's first word not stored; the answer stored in the last words lent; exactly as many words as it has refused.
 pub fn store(answer: &[u32], words: &mut [u32])
     ensures { λ _. ⌜ now (words .exit) ≡ stored (now (answer .entry)) (now (words .entry)) ⌝ }
 {

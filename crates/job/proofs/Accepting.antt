@@ -1,4 +1,4 @@
--- What the loop of an offer keeps (document 01: "stops at the first row that makes an output row ready, at the last offered or at the source's last"):
+-- What the loop of an offer keeps (SCOPE: "stops at the first row that makes an output row ready, at the last offered or at the source's last"):
 -- none was ready before the last row, and the rows so far are in the work rows. Where it stops, the rows so far are the count. Assumes nothing.
 use Prim.Native.Nat.{ℕ, zero, suc, _+_, _*_, _-_, _/_, _≤_, _<_}
 use mathlib.Core.Path.{_≡_, refl, sym, _∙_, ap}

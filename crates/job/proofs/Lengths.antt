@@ -1,5 +1,5 @@
 -- What a call answers hangs on the record and on the lengths of what is lent, never on a byte or a work value: the number, the rows accepted, and the
--- next record's plan, accepted and taken. Only the flag is read from the row that is written. Assumes nothing.
+-- next record's plan, accepted and taken. Only the flag is read from the row that is written. For request 10 (SCOPE). Assumes nothing.
 use Prim.Native.Nat.{ℕ, _+_}
 use mathlib.Core.Path.{_≡_, sym, ap, ap₂, _∙_}
 use mathlib.Core.Logic.{_⊎_, inl, inr}

@@ -1,4 +1,4 @@
--- The answers of start, offer and take: document 01's number, 0 where the call went through, and the values of each case. Assumes nothing.
+-- The answers of start, offer and take: SCOPE's number, 0 where the call went through, and the values of each case. Assumes nothing.
 use Prim.Native.Nat.{ℕ}
 use Rattle.pixels.specs.Refusals.{number}
 use Rattle.job.specs.declared.Job.{Job}

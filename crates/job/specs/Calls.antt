@@ -1,5 +1,5 @@
--- What start, offer and take answer and leave in every buffer (document 01, "The job" and "Why a call is turned away"), for every record and any contents
--- of the work values. Assumes nothing.
+-- What start, offer and take answer and leave in every buffer (SCOPE, "The job", "Why a call is turned away", "A row comes in", "A row goes out" and
+-- "The list of demand 3"), for every record and any contents of the work values. Assumes nothing.
 use Prim.Native.Nat.{ℕ, zero, suc, _+_, _-_, _/_, min}
 use mathlib.Core.Bool.{Bool, cond, _||_}
 use mathlib.Core.List.{List, _++_}

@@ -1,4 +1,4 @@
--- The record and its rules (document 01, "The job"). Assumes nothing.
+-- The record and its rules (SCOPE, "The job"). Assumes nothing.
 use Prim.Native.Nat.{ℕ, _-_}
 use mathlib.Core.Bool.{Bool, false, cond}
 use Rattle.job_rules.specs.declared.Plan.{Plan}

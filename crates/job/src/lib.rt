@@ -1,4 +1,4 @@
-// The job (document 01, "The job"; the Rust: Rescaler and rescale_plane of geometry.rs): a record by value that every call takes and hands back.
+// The job (SCOPE, "The job"; the Rust: Rescaler and rescale_plane of geometry.rs): a record by value that every call takes and hands back.
 // The caller lends the rows, the work values and the output row. Fields are public: a record that meets the rules counts, whoever filled it.
 use job_rules::Plan;
 use job_rules::check_offer;
@@ -143,7 +143,7 @@ fn clear(work: &mut [u32], n: usize)
 }
 
 // A fresh job, and both halves of the work rows cleared.
-// Rules out: a half left as it was; a value beyond the halves touched; 5 told before 1 or 2.
+// Rules out: a half left as it was; the whole slice cleared, beyond the halves too; a fresh job that has accepted a row.
 pub fn start(
     source: Dimensions,
     layout: PixelLayout,
@@ -188,7 +188,7 @@ impl Job {
     }
 
     // The output rows that are ready; none of a record that breaks the rules.
-    // Rules out: rows counted that were taken; a row ready of a record that breaks the rules.
+    // Rules out: the rows accepted taken off in place of the rows taken; a row ready of a record that breaks the rules.
     pub fn ready(self) -> u32
         ensures { λ r. ⌜ r ≡ readyOf self ⌝ }
     {
@@ -201,7 +201,7 @@ impl Job {
     }
 
     // Offers one or more whole source rows; returns how many were accepted.
-    // Rules out: an offer that goes on past the first row that makes an output row ready; a count that was not fed; 8 told while a row is ready.
+    // Rules out: an offer that goes on past the first row that makes an output row ready; a count that was not fed; rows fed that the record does not count.
     pub fn offer(mut self, rows: &[u8], work: &mut [u32]) -> Offered
         ensures number { λ r. ⌜ offeredNumber r ≡ offerNumber self (length (now (rows .entry))) (length (now (work .entry))) ⌝ }
         ensures rows { λ r. ⌜ offeredRows r ≡ offerRows self (length (now (rows .entry))) (length (now (work .entry))) ⌝ }
@@ -231,7 +231,7 @@ impl Job {
     }
 
     // Takes the next output row; its alpha flag joins the record's.
-    // Rules out: a row written twice or not at all; t advanced by a call that was turned away; the flag of an opaque row set.
+    // Rules out: a row skipped; a take that advances and writes nothing; the flag of the row just taken dropped.
     pub fn take(mut self, out: &mut [u8], work: &mut [u32]) -> Taken
         ensures number { λ r. ⌜ takenNumber r ≡ takeNumber self (length (now (out .entry))) (length (now (work .entry))) ⌝ }
         ensures job { λ r. ⌜ takenJob r ≡ takeJob self (length (now (out .entry))) (now (work .entry)) ⌝ }

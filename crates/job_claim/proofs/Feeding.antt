@@ -1,23 +1,21 @@
 -- The accepted rows one after another: what the work rows hold after each, and that lengths stay. Assumes nothing.
-use Prim.Native.Nat.{ℕ, zero, suc, _+_, _-_, _*_, _/_, _%_, _^_, _≤_, _<_}
+use Prim.Native.Nat.{ℕ, zero, suc, _+_, _-_, _*_, _≤_, _<_}
 use mathlib.Core.Path.{_≡_, refl, sym, ap, _∙_}
-use mathlib.Core.Bool.{Bool, true, false, cond, _&&_}
 use mathlib.Core.Logic.{_⊎_, inl, inr}
 use mathlib.Core.List.{List}
 use native.Mathlib.Omega.{arith}
 use native.Mathlib.Nat.{le-trans, mul-le-mul-left}
-use lib.ListN.{length, getD, take, drop}
+use lib.ListN.{length, getD, drop}
 use lib.Seq.{getD-take, getD-drop, length-take-le}
-use lib.Dec.{leb, ltb}
 use borrow.Author.Tests.{le-leb, lt-leb, lt-ltb, le-ltb}
 use Rattle.pixels.specs.Sizes.{pixelLanes, rowBytes, halfValues, workValues, Fits}
 use Rattle.pixels_crop.specs.Crop.{pictureRow}
-use Rattle.rows_schedule.specs.Schedule.{used, since, rowsBy}
+use Rattle.rows_schedule.specs.Schedule.{used}
 use Rattle.rows_schedule.proofs.Crop.{Place, within, beside, place, inside, used-row, rows-le}
 use Rattle.rows_schedule.proofs.Needed.{since-le}
 use Rattle.rows.specs.WorkRows.{rowIn}
 use Rattle.rows_laws.proofs.Held.{Held, held-in}
-use Rattle.rows_laws.proofs.WorkRows.{rowIn-length}
+use Rattle.rows_laws.proofs.WorkRows.{rowIn-length, rowIn-rest}
 use Rattle.job_rules.specs.declared.Plan.{Plan}
 use Rattle.job_rules.specs.Rules.{lanesOf, R}
 use Rattle.job.specs.Calls.{scaleBy, valuesOf, rowAccepted, fed}
@@ -62,6 +60,19 @@ module _ (p : Plan) (fits : Fits (p .source) (p .crop) (p .target)) where
           ∙ rowIn-length (scaleBy p) (s - p .crop .y) (valuesOf p row) work (omega arith)
       by (beside e w) = ap length (row-beside row s work w)
 
+  -- "the rest is untouched"
+  row-rest : (row : List ℕ) (s : ℕ) (work : List ℕ) → workValues (lanesOf p) (p .target .width) ≤ length work
+      → drop (workValues (lanesOf p) (p .target .width)) (rowAccepted p row s work) ≡ drop (workValues (lanesOf p) (p .target .width)) work
+  row-rest row s work room = by (place (p .crop .y) (p .crop .height) s)
+    where
+      both : workValues (lanesOf p) (p .target .width) ≡ halfValues (lanesOf p) (p .target .width) + halfValues (lanesOf p) (p .target .width)
+      both = omega arith
+
+      by : Place (p .crop .y) (p .crop .height) s
+          → drop (workValues (lanesOf p) (p .target .width)) (rowAccepted p row s work) ≡ drop (workValues (lanesOf p) (p .target .width)) work
+      by (within a b) = rw (row-in row s work a b, both) (rowIn-rest (scaleBy p) (s - p .crop .y) (valuesOf p row) work (omega arith))
+      by (beside e w) = ap (drop (workValues (lanesOf p) (p .target .width))) (row-beside row s work w)
+
   -- the row's bytes being those of b
   pub row-held : (b : ℕ → ℕ) (row : List ℕ) (k t : ℕ) (work : List ℕ) → t ≤ R p k → length row ≡ rowBytes (lanesOf p) (p .source .width)
       → ((z : ℕ) → z < rowBytes (lanesOf p) (p .source .width) → getD row z 0 ≡ b (rowBytes (lanesOf p) (p .source .width) * k + z))
@@ -86,6 +97,14 @@ module _ (p : Plan) (fits : Fits (p .source) (p .crop) (p .target)) where
   fed-length rows k (suc c) work room =
       let h = fed-length rows k c work room in
       row-length-kept (pictureRow pixelLanes rows (p .source .width) c) (k + c) (fed p rows k c work) (omega arith) ∙ h
+
+  pub fed-rest : (rows : List ℕ) (k c : ℕ) (work : List ℕ) → workValues (lanesOf p) (p .target .width) ≤ length work
+      → drop (workValues (lanesOf p) (p .target .width)) (fed p rows k c work) ≡ drop (workValues (lanesOf p) (p .target .width)) work
+  unfolding fed
+  fed-rest rows k zero work room = refl
+  fed-rest rows k (suc c) work room =
+      let h = fed-length rows k c work room in
+      row-rest (pictureRow pixelLanes rows (p .source .width) c) (k + c) (fed p rows k c work) (omega arith) ∙ fed-rest rows k c work room
 
   pub fed-held : (b : ℕ → ℕ) (rows : List ℕ) (k t c : ℕ) (work : List ℕ) → t ≤ R p k → rowBytes (lanesOf p) (p .source .width) * c ≤ length rows
       → ((z : ℕ) → z < rowBytes (lanesOf p) (p .source .width) * c → getD rows z 0 ≡ b (rowBytes (lanesOf p) (p .source .width) * k + z))

@@ -2,7 +2,7 @@
 -- taken. Why: the flag asks the pixels one after another, and each row is a whole number of pixels. Assumes nothing.
 use Prim.Native.Nat.{ℕ, zero, suc, _+_, _*_, _<_}
 use mathlib.Core.Path.{_≡_, refl, sym, ap, ap₂, _∙_}
-use mathlib.Core.Bool.{Bool, false, not, _||_, or-false, or-assoc}
+use mathlib.Core.Bool.{false, not, _||_, or-false, or-assoc}
 use mathlib.Core.List.{List, [], _∷_, _++_, append-nil, append-assoc}
 use native.Mathlib.Omega.{arith}
 use lib.ListN.{length, getD, length-append, List·getD-append}

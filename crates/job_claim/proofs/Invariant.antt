@@ -1,18 +1,16 @@
 -- What holds after every list of calls from a fresh job. The record is what was counted (`jobAt`); the work rows hold, for every byte function that agrees with
 -- the accepted bytes, what the closed form says; each row handed out is the closed form's. A call turned away changes nothing. Assumes nothing.
-use Prim.Native.Nat.{ℕ, zero, suc, _+_, _*_, _-_, _/_, _%_, _≤_, _<_, min}
-use mathlib.Core.Path.{_≡_, refl, sym, _∙_, ap, ap₂}
+use Prim.Native.Nat.{ℕ, zero, suc, _+_, _*_, _-_, _≤_, _<_, min}
+use mathlib.Core.Path.{_≡_, refl, sym, _∙_, ap}
 use mathlib.Core.Logic.{_⊎_, inl, inr, ⊎-elim}
-use mathlib.Core.Bool.{Bool, true, false, cond, _||_}
+use mathlib.Core.Bool.{Bool, _||_}
 use mathlib.Core.List.{List, [], _∷_, _++_, append-nil}
 use native.Mathlib.Omega.{arith}
-use native.Mathlib.Nat.{eq-or-lt-of-le, le-of-suc-le-suc, div-add-mod, mul-le-mul-left, le-trans, add-zero, mul-zero}
+use native.Mathlib.Nat.{eq-or-lt-of-le, le-of-suc-le-suc, div-add-mod, mul-le-mul-left, le-trans, mul-zero}
 use native.Mathlib.Numerals.{add-one}
-use lib.ListN.{length, getD, take, drop, replicate, length-append, length-take, length-replicate, take-append-drop, List·getD-append}
-use lib.Seq.{getD-take, getD-append-add, getD-at, length-take-le}
-use lib.Dec.{eqb}
-use borrow.Author.Tests.{eq-eqb}
-use Rattle.pixels.specs.Sizes.{pixelLanes, rowBytes, halfValues, workValues, Fits}
+use lib.ListN.{length, getD, take, drop, replicate, length-append, length-take, length-drop, length-replicate, take-append-drop, List·getD-append}
+use lib.Seq.{getD-take, getD-append-add, getD-at, length-take-le, length-front, drop-append-le, drop-at}
+use Rattle.pixels.specs.Sizes.{rowBytes, halfValues, workValues}
 use Rattle.pixels_alpha.specs.Alpha.{hasAlpha}
 use Rattle.rows_schedule.specs.Schedule.{used}
 use Rattle.rows_schedule.proofs.Crop.{rows-le, rows-none}
@@ -20,16 +18,17 @@ use Rattle.rows_laws.proofs.Held.{held-start, held-same}
 use Rattle.job_rules.specs.declared.Plan.{Plan}
 use Rattle.job_rules.specs.Rules.{lanesOf, R, startNumber}
 use Rattle.job.specs.declared.Job.{Job}
-use Rattle.job.specs.Record.{Rules, fresh}
+use Rattle.job.specs.Record.{Rules}
 use Rattle.job.specs.Calls as calls
-use Rattle.job.specs.Calls.{scaleBy, mostRows, count, lentRows, moreAccepted, moreTaken, fed, rowTaken, workTaken, startWork, cleared}
+use Rattle.job.specs.Calls.{scaleBy, mostRows, count, lentRows, moreAccepted, moreTaken, fed, rowTaken, workTaken, cleared}
 use Rattle.job.proofs.Counting.{counted-most, counted-low, counted-some}
 use Rattle.job.proofs.Views.{WholeRows, OfferTurned, OfferWent, offer-view, TakeTurned, TakeWent, take-view, StartWent, start-went}
 use Rattle.job_claim.specs.Rows.{rowOf, joined}
-use Rattle.job_claim.specs.Calls.{Call, Offer, Take, Seen, Run, nothing, step, run, begun, seenOffer, seenTake}
+use Rattle.job_claim.specs.Claim.{RestStays}
+use Rattle.job_claim.specs.Calls.{Call, Offer, Take, Seen, Run, nothing, step, run, begun, seenOffer}
 use Rattle.job_claim.proofs.Reading.{cropValue}
-use Rattle.job_claim.proofs.Feeding.{Holds, fed-held, fed-length}
-use Rattle.job_claim.proofs.Taking.{row-is, left-holds, row-taken-length, left-length}
+use Rattle.job_claim.proofs.Feeding.{Holds, fed-held, fed-length, fed-rest}
+use Rattle.job_claim.proofs.Taking.{row-is, left-holds, row-taken-length, left-length, left-rest}
 use Rattle.job_claim.proofs.Flagged.{joined-append, joined-flag, hasAlpha-none}
 
 -- b goes on where the list of bytes ends
@@ -53,12 +52,13 @@ pub record Inv (p : Plan) (s : Seen) (work : List ℕ) : Type 0 where
   pub handed : (b : ℕ → ℕ) → Agrees b (s .source) → (y : ℕ) → y < s .taken → getD (s .rows) y [] ≡ rowOf p b y
   pub flagged : s .flag ≡ hasAlpha (p .layout) (joined (s .rows)) (p .target .width * s .taken)
 
--- a run that a list of calls led to
-pub record Kept (p : Plan) (r : Run) : Type 0 where
+-- a run that a list of calls led to, from a start that was lent the work values `given`
+pub record Kept (p : Plan) (given : List ℕ) (r : Run) : Type 0 where
   pub seen : Seen
   pub work : List ℕ
   pub is : r ≡ runAt p seen work
   pub inv : Inv p seen work
+  pub rest : RestStays p given work
 
 -- ---- what is lent of the work values holds what they hold
 module _ (p : Plan) (b : ℕ → ℕ) (k t : ℕ) where
@@ -72,6 +72,22 @@ module _ (p : Plan) (b : ℕ → ℕ) (k t : ℕ) where
   held-back part rest room held =
       held-same (scaleBy p) (cropValue p b) _ t part (part ++ rest) (rw length-append (omega arith))
       (λ i h. List·getD-append part rest 0 i (omega arith)) held
+
+-- ---- a call that writes over what was lent, and there only the halves
+rest-on : (p : Plan) (given work after : List ℕ) (lent : ℕ) → workValues (lanesOf p) (p .target .width) ≤ length (take lent work) → length after ≡ length (take lent work)
+    → drop (workValues (lanesOf p) (p .target .width)) after ≡ drop (workValues (lanesOf p) (p .target .width)) (take lent work)
+    → RestStays p given work → RestStays p given (after ++ drop lent work)
+rest-on p given work after lent room len same rest =
+    let w : ℕ = workValues (lanesOf p) (p .target .width) in
+    record {
+      as-many = length-front work after lent len ∙ rest .as-many;
+      as-given =
+          drop-append-le w after (drop lent work) (omega arith)
+          ∙ ap (λ (t : List ℕ). t ++ drop lent work) same
+          ∙ sym (drop-append-le w (take lent work) (drop lent work) room)
+          ∙ ap (drop w) (take-append-drop lent work)
+          ∙ rest .as-given;
+    }
 
 agrees-left : (b : ℕ → ℕ) (s t : List ℕ) → Agrees b (s ++ t) → Agrees b s
 agrees-left b s t h i l = sym (List·getD-append s t 0 i l) ∙ h i (rw length-append (omega arith))
@@ -233,23 +249,31 @@ module _ (p : Plan) (s : Seen) (work : List ℕ) (v : Inv p s work) where
         }
 
   -- ---- any call
-  pub step-kept : (call : Call) → Kept p (step p (runAt p s work) call)
-  step-kept (Offer rows lent) = by (offer-view (jobAt p s) rows (take lent work))
+  pub step-kept : (given : List ℕ) → RestStays p given work → (call : Call) → Kept p given (step p (runAt p s work) call)
+  step-kept given rest (Offer rows lent) = by (offer-view (jobAt p s) rows (take lent work))
     where
-      by : OfferTurned (jobAt p s) rows (take lent work) ⊎ OfferWent (jobAt p s) rows (take lent work) → Kept p (step p (runAt p s work) (Offer rows lent))
-      by (inl o) = record { seen = s; work = work; is = offer-stays rows lent o; inv = v }
-      by (inr o) = record { seen = _; work = _; is = offer-leads rows lent o; inv = offer-kept rows lent o }
-  step-kept (Take out lent) = by (take-view (jobAt p s) out (take lent work))
+      by : OfferTurned (jobAt p s) rows (take lent work) ⊎ OfferWent (jobAt p s) rows (take lent work) → Kept p given (step p (runAt p s work) (Offer rows lent))
+      by (inl o) = record { seen = s; work = work; is = offer-stays rows lent o; inv = v; rest = rest }
+      by (inr o) =
+          let sizes = o .rules .sizes in
+          let n : ℕ = count (jobAt p s) (length rows) in
+          let len = fed-length p sizes rows (s .accepted) n (take lent work) (o .room) in
+          let same = fed-rest p sizes rows (s .accepted) n (take lent work) (o .room) in
+          record { seen = _; work = _; is = offer-leads rows lent o; inv = offer-kept rows lent o; rest = rest-on p given work _ lent (o .room) len same rest }
+  step-kept given rest (Take out lent) = by (take-view (jobAt p s) out (take lent work))
     where
-      by : TakeTurned (jobAt p s) out (take lent work) ⊎ TakeWent (jobAt p s) out (take lent work) → Kept p (step p (runAt p s work) (Take out lent))
-      by (inl o) = record { seen = s; work = work; is = take-stays out lent o; inv = v }
-      by (inr o) = record { seen = _; work = _; is = take-leads out lent o; inv = take-kept out lent o }
+      by : TakeTurned (jobAt p s) out (take lent work) ⊎ TakeWent (jobAt p s) out (take lent work) → Kept p given (step p (runAt p s work) (Take out lent))
+      by (inl o) = record { seen = s; work = work; is = take-stays out lent o; inv = v; rest = rest }
+      by (inr o) =
+          let len = left-length (jobAt p s) (take lent work) (o .room) in
+          let same = left-rest (jobAt p s) (take lent work) in
+          record { seen = _; work = _; is = take-leads out lent o; inv = take-kept out lent o; rest = rest-on p given work _ lent (o .room) len same rest }
 
 -- ---- a list of calls
-pub run-kept : (p : Plan) (calls : List Call) (r : Run) → Kept p r → Kept p (run p r calls)
+pub run-kept : (p : Plan) (given : List ℕ) (calls : List Call) (r : Run) → Kept p given r → Kept p given (run p r calls)
 unfolding run
-run-kept p [] r k = k
-run-kept p (call ∷ calls) r k = run-kept p calls (step p r call) (rw (k .is) (step-kept p (k .seen) (k .work) (k .inv) call))
+run-kept p given [] r k = k
+run-kept p given (call ∷ calls) r k = run-kept p given calls (step p r call) (rw (k .is) (step-kept p (k .seen) (k .work) (k .inv) given (k .rest) call))
 
 -- ---- a fresh job
 pub begun-inv : (p : Plan) (work : List ℕ) → StartWent p work → Inv p nothing (cleared p work)
@@ -275,7 +299,21 @@ begun-inv p work o =
       flagged = rw mul-zero (sym (hasAlpha-none (p .layout) []));
     }
 
-pub begun-kept : (p : Plan) (work : List ℕ) → startNumber p (length work) ≡ 0 → Kept p (begun p work)
+begun-rest : (p : Plan) (work : List ℕ) → workValues (lanesOf p) (p .target .width) ≤ length work → RestStays p work (cleared p work)
+begun-rest p work room =
+    let w : ℕ = workValues (lanesOf p) (p .target .width) in
+    record {
+      as-many = rw (length-append, length-replicate, length-drop) (omega arith);
+      as-given = drop-at (replicate w 0) (drop w work) w (length-replicate w 0);
+    }
+
+pub begun-kept : (p : Plan) (work : List ℕ) → startNumber p (length work) ≡ 0 → Kept p work (begun p work)
 begun-kept p work e =
     let o = start-went p work e in
-    record { seen = nothing; work = cleared p work; is = ap (λ (w : List ℕ). runAt p nothing w) (o .work-after); inv = begun-inv p work o }
+    record {
+      seen = nothing;
+      work = cleared p work;
+      is = ap (λ (w : List ℕ). runAt p nothing w) (o .work-after);
+      inv = begun-inv p work o;
+      rest = begun-rest p work (o .room);
+    }

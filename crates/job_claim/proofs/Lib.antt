@@ -3,7 +3,9 @@ pub mod Feeding
 pub mod Taking
 pub mod Flagged
 pub mod Invariant
+pub mod TurnedAway
 pub mod Theorem
 pub mod Reaching
 pub mod Whole
 pub mod Trials
+pub mod AnyPixel

@@ -1,16 +1,16 @@
 -- For every source of the right length there is a list of calls that brings all of it and takes every row, no call being turned away: offer one row after another,
 -- and take while a row is ready. What is left to accept and to take falls with each call. Assumes nothing.
-use Prim.Native.Nat.{ℕ, zero, suc, _+_, _*_, _-_, _/_, _%_, _≤_, _<_, min}
-use mathlib.Core.Path.{_≡_, refl, sym, _∙_, ap}
+use Prim.Native.Nat.{ℕ, zero, suc, _+_, _*_, _-_, _/_, _%_, _≤_, _<_}
+use mathlib.Core.Path.{_≡_, refl, _∙_, ap}
 use mathlib.Core.Logic.{_⊎_, inl, inr}
 use mathlib.Core.List.{List, [], _∷_, _++_}
 use native.Mathlib.Omega.{arith}
-use native.Mathlib.Nat.{div-add-mod, mul-le-mul-left}
-use lib.ListN.{length, getD, take, drop, replicate, length-replicate}
+use native.Mathlib.Nat.{div-add-mod}
+use lib.ListN.{length, take, drop, replicate, length-replicate}
 use lib.Seq.{take-length, take-add, take-all}
 use Rattle.arithmetic.proofs.Orders.{le-or-lt}
 use Rattle.arithmetic.proofs.Quotients.{div-is}
-use Rattle.pixels.specs.Sizes.{pixelLanes, rowBytes, pictureBytes, workValues}
+use Rattle.pixels.specs.Sizes.{pixelLanes, rowBytes, pictureBytes}
 use Rattle.pixels_crop.specs.Crop.{pictureRow}
 use Rattle.rows_schedule.proofs.Crop.{rows-most, rows-all}
 use Rattle.job_rules.specs.declared.Plan.{Plan}
@@ -18,7 +18,7 @@ use Rattle.job_rules.specs.Rules.{lanesOf, R, startNumber}
 use Rattle.job.specs.Calls.{count, lentRows}
 use Rattle.job.proofs.Views
 use Rattle.job.proofs.Views.{WholeRows}
-use Rattle.job_claim.specs.Calls.{Call, Offer, Take, Seen, Run, nothing, step, run, begun, offerNumber, takeNumber, NoneRefused}
+use Rattle.job_claim.specs.Calls.{Call, Offer, Take, Seen, Run, nothing, step, run, offerNumber, takeNumber, NoneRefused}
 use Rattle.job_claim.specs.Claim.{Reached}
 use Rattle.job_claim.proofs.Feeding.{row-length}
 use Rattle.job_claim.proofs.Invariant.{jobAt, runAt, Inv, offer-leads, offer-kept, take-leads, take-kept, count-some, count-most, begun-inv}
@@ -29,7 +29,7 @@ record Way (p : Plan) (pixels : List ℕ) (r : Run) : Type 0 where
   none-refused : NoneRefused p r calls
   source : run p r calls .seen .source ≡ pixels
   accepted : run p r calls .seen .accepted ≡ p .source .height
-  taken : run p r calls .seen .taken ≡ R p (p .source .height)
+  taken : run p r calls .seen .taken ≡ p .target .height
 
 offer-first : (p : Plan) (pixels : List ℕ) (r : Run) (rows : List ℕ) (lent : ℕ) → offerNumber r rows lent ≡ 0 → Way p pixels (step p r (Offer rows lent)) → Way p pixels r
 unfolding run
@@ -78,7 +78,7 @@ module _ (p : Plan) (pixels : List ℕ) (long : length pixels ≡ pictureBytes p
           none-refused = tt;
           source = first ∙ take-all (rowBytes (lanesOf p) (p .source .width) * s .accepted) pixels (rw (long, same) (omega arith));
           accepted = same;
-          taken = rw (← same) (omega (arith, v .rules .high));
+          taken = omega (arith, v .rules .high, rows-all (p .crop .y) (p .crop .height) (p .target .height) (v .rules .sizes .crop-height) (s .accepted) (omega (arith, v .rules .sizes .bottom)));
         }
 
     module _ (n : ℕ) (ih : (s : Seen) (work : List ℕ) → Inv p s work → First s → left s ≡ n → Way p pixels (runAt p s work)) (e : left s ≡ suc n) where

@@ -1,18 +1,14 @@
 -- From the bytes of a source row to the values that the work rows hold: the crop window of a row that the byte function b agrees with, matted, gives the
 -- matted bytes of the closed form; and a row goes out as the closed form of its lanes. Assumes nothing.
-use Prim.Native.Nat.{ℕ, zero, suc, _+_, _-_, _*_, _/_, _%_, _^_, _≤_, _<_}
-use mathlib.Core.Path.{_≡_, refl, sym, ap, _∙_}
+use Prim.Native.Nat.{ℕ, _+_, _*_, _/_, _%_, _^_, _≤_, _<_}
+use mathlib.Core.Path.{_≡_, ap, _∙_}
 use mathlib.Core.Bool.{false}
 use mathlib.Core.List.{List}
 use native.Mathlib.Omega.{arith}
-use native.Mathlib.Nat.{le-antisymm, le-refl, mul-le-mul-left}
-use lib.ListN.{length, getD, take, drop}
-use lib.Seq.{getD-take, getD-drop}
-use lib.Dec.{leb}
-use borrow.Author.Tests.{le-leb}
+use native.Mathlib.Nat.{le-antisymm, mul-le-mul-left}
+use lib.ListN.{length, getD}
 use Rattle.arithmetic.specs.Matte.{laneOf, pixelOf, multArgb}
 use Rattle.arithmetic.proofs.Mattes.{lane-byte, pixel-cong}
-use Rattle.pixels_layout.specs.declared.PixelLayout.{PixelLayout}
 use Rattle.pixels.specs.Sizes.{pixelLanes, rowBytes, halfValues, Fits}
 use Rattle.pixels_layout.specs.Layout.{placeOf, laneAt, pixelAt}
 use Rattle.pixels_layout.specs.Lanes.{matted}
@@ -38,7 +34,8 @@ value-cong p q n m j within same =
     le-antisymm (value-mono p q n m j within (λ i l. omega (arith, same i l))) (value-mono q p n m j within (λ i l. omega (arith, same i l)))
 
 -- ---- a source row, its bytes being those of b from its start on
-module _ (p : Plan) (b : ℕ → ℕ) (row : List ℕ) (c : ℕ) (fits : Fits (p .source) (p .crop) (p .target)) (long : length row ≡ rowBytes (lanesOf p) (p .source .width)) (agrees : (z : ℕ) → z < rowBytes (lanesOf p) (p .source .width) → getD row z 0 ≡ b (rowBytes (lanesOf p) (p .source .width) * (p .crop .y + c) + z)) where
+module _ (p : Plan) (b : ℕ → ℕ) (row : List ℕ) (c : ℕ) (fits : Fits (p .source) (p .crop) (p .target)) (long : length row ≡ rowBytes (lanesOf p) (p .source .width))
+    (agrees : (z : ℕ) → z < rowBytes (lanesOf p) (p .source .width) → getD row z 0 ≡ b (rowBytes (lanesOf p) (p .source .width) * (p .crop .y + c) + z)) where
   window-inside : rowBytes pixelLanes (p .crop .x + p .crop .width) ≤ length row
   window-inside = rw long (mul-le-mul-left pixelLanes (fits .right))
 

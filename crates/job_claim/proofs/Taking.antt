@@ -1,29 +1,25 @@
 -- A row goes out: its bytes are the closed form's, the work rows hold what is left, and under the premise the taken alpha, and the colours beside an alpha of 255,
 -- are near the exact mean (MATHEMATICS 7). Assumes nothing.
-use Prim.Native.Nat.{ℕ, zero, suc, _+_, _-_, _*_, _/_, _%_, _^_, _≤_, _<_}
-use mathlib.Core.Path.{_≡_, refl, sym, ap, _∙_}
-use mathlib.Core.Bool.{true, false}
+use Prim.Native.Nat.{ℕ, suc, _+_, _*_, _/_, _%_, _≤_, _<_}
+use mathlib.Core.Path.{_≡_, sym, ap, _∙_}
+use mathlib.Core.Bool.{true}
 use mathlib.Core.List.{List}
 use native.Mathlib.Omega.{arith}
-use lib.ListN.{length, getD}
+use lib.ListN.{length, getD, drop}
 use Rattle.arithmetic.specs.Matte.{laneOf, multArgb, pixelOf}
 use Rattle.arithmetic.proofs.Mattes.{pixel-cong}
 use Rattle.arithmetic.specs.Weight.{span}
-use Rattle.arithmetic.specs.Table.{tabulate}
 use Rattle.arithmetic.proofs.Tables.{length-tabulate, getD-tabulate, tabulate-cong}
-use Rattle.pixels_layout.specs.declared.PixelLayout.{PixelLayout}
 use Rattle.pixels.specs.Sizes.{pixelLanes, rowBytes, halfValues, workValues, Fits}
 use Rattle.pixels_layout.specs.Layout.{placeOf, alphaLane, packedByte}
 use Rattle.pixels_layout.specs.Lanes.{restoredPixel, restoredPlace}
 use Rattle.pixels_layout.proofs.Tabled.{place-lt, place-twice}
-use Rattle.rows_schedule.specs.Schedule.{used, needed}
+use Rattle.rows_schedule.specs.Schedule.{needed}
 use Rattle.rows_schedule.proofs.Needed.{needed-used}
-use Rattle.rows_schedule.proofs.Crop.{rows-most}
-use Rattle.rows.specs.WorkRows.{byteOut}
 use Rattle.rows.specs.Closed.{scaled}
-use Rattle.rows.specs.Mean.{exactSum, total, Near, Premise}
+use Rattle.rows_laws.specs.Mean.{exactSum, total, Near, Premise}
 use Rattle.rows_laws.proofs.Held.{held-byte, held-out}
-use Rattle.rows_laws.proofs.WorkRows.{rowLeft-length}
+use Rattle.rows_laws.proofs.WorkRows.{rowLeft-length, rowLeft-rest}
 use Rattle.rows_laws.proofs.Distance.{distance}
 use Rattle.rows_laws.proofs.Taken.{takenPixel, Matted, matte-matted, taken-alpha, taken-opaque}
 use Rattle.job_rules.specs.declared.Plan.{Plan}
@@ -67,6 +63,14 @@ pub left-length : (j : Job) (work : List ℕ) → workValues (lanesOf (j .plan))
 unfolding workTaken
 left-length j work room = rowLeft-length _ _ _ work (omega arith)
 
+pub left-rest : (j : Job) (work : List ℕ)
+    → drop (workValues (lanesOf (j .plan)) (j .plan .target .width)) (workTaken j work) ≡ drop (workValues (lanesOf (j .plan)) (j .plan .target .width)) work
+unfolding workTaken
+left-rest j work =
+    let half : ℕ = halfValues (lanesOf (j .plan)) (j .plan .target .width) in
+    let both : workValues (lanesOf (j .plan)) (j .plan .target .width) ≡ half + half = omega arith in
+    rw both (rowLeft-rest (scaleBy (j .plan)) (usedBy j) (j .taken) work half)
+
 -- ---- the byte of lane k, column i, of a row
 module _ (p : Plan) (b : ℕ → ℕ) (y i : ℕ) (inside : i < p .target .width) where
   abbrev pixel : ℕ
@@ -79,7 +83,10 @@ module _ (p : Plan) (b : ℕ → ℕ) (y i : ℕ) (inside : i < p .target .width
       let d : (pixelLanes * i + k) / pixelLanes ≡ i = omega arith in
       rw (q, d)
 
-  pub row-lane : (k : ℕ) → k < pixelLanes → getD (rowOf p b y) (pixelLanes * i + placeOf (p .layout) k) 0 ≡ laneOf pixel k
+  abbrev byteAt : ℕ → ℕ
+  byteAt k = getD (rowOf p b y) (pixelLanes * i + placeOf (p .layout) k) 0
+
+  pub row-lane : (k : ℕ) → k < pixelLanes → byteAt k ≡ laneOf pixel k
   unfolding rowOf restoredPlace packedByte restoredPixel
   row-lane k l =
       let small = place-lt (p .layout) k l in
@@ -92,7 +99,14 @@ module _ (p : Plan) (b : ℕ → ℕ) (y i : ℕ) (inside : i < p .target .width
 
   -- ---- near the exact mean
   module _ (fits : Fits (p .source) (p .crop) (p .target)) (row : y < p .target .height) (premise : Premise (span (p .crop .width) (p .target .width)) (p .crop .height) (p .target .height)) where
-    lane-near : (k : ℕ) → Near (scaled (p .crop .width) (p .target .width) (p .crop .height) (p .target .height) (mattedByte p b k) i y) (exactSum (p .crop .width) (p .target .width) (p .crop .height) (p .target .height) (mattedByte p b k) i y) (total (p .crop .width) (p .target .width) (p .crop .height) (p .target .height))
+    -- a byte of lane k against the exact mean of that lane
+    abbrev NearMean : ℕ → ℕ → Type 0
+    NearMean k byte =
+        Near byte
+        (exactSum (p .crop .width) (p .target .width) (p .crop .height) (p .target .height) (mattedByte p b k) i y)
+        (total (p .crop .width) (p .target .width) (p .crop .height) (p .target .height))
+
+    lane-near : (k : ℕ) → NearMean k (scaled (p .crop .width) (p .target .width) (p .crop .height) (p .target .height) (mattedByte p b k) i y)
     lane-near k =
         distance (p .crop .width) (p .target .width) (p .crop .height) (p .target .height) (mattedByte p b k) i y (fits .crop-width) (fits .crop-height)
         (omega (arith, fits .right, fits .source-width .most)) (fits .target-width .most) (fits .target-height .most) inside row (λ c i' l u. matted-small p b k c i') premise
@@ -101,13 +115,17 @@ module _ (p : Plan) (b : ℕ → ℕ) (y i : ℕ) (inside : i < p .target .width
     unfolding mattedByte
     matted-picture = matte-matted (p .crop .width) (p .crop .height) (λ c i'. pixelOf (sourceByte p b c i'))
 
-    pub alpha-near : Near (getD (rowOf p b y) (pixelLanes * i + placeOf (p .layout) alphaLane) 0) (exactSum (p .crop .width) (p .target .width) (p .crop .height) (p .target .height) (mattedByte p b alphaLane) i y) (total (p .crop .width) (p .target .width) (p .crop .height) (p .target .height))
+    pub alpha-near : NearMean alphaLane (byteAt alphaLane)
     alpha-near =
-        rw (row-lane alphaLane (omega arith) ∙ taken-alpha (p .crop .width) (p .target .width) (p .crop .height) (p .target .height) i y (fits .crop-width) (fits .target-width .most) (fits .crop-height) (fits .target-height .most) inside row (premise .shrinking) (mattedByte p b) matted-picture)
-        (lane-near alphaLane)
+        let e =
+        taken-alpha (p .crop .width) (p .target .width) (p .crop .height) (p .target .height) i y (fits .crop-width) (fits .target-width .most)
+        (fits .crop-height) (fits .target-height .most) inside row (premise .shrinking) (mattedByte p b) matted-picture in
+        rw (row-lane alphaLane (omega arith) ∙ e) (lane-near alphaLane)
 
-    pub colour-near : getD (rowOf p b y) (pixelLanes * i + placeOf (p .layout) alphaLane) 0 ≡ 255 → (k : ℕ) → k < alphaLane
-        → Near (getD (rowOf p b y) (pixelLanes * i + placeOf (p .layout) k) 0) (exactSum (p .crop .width) (p .target .width) (p .crop .height) (p .target .height) (mattedByte p b k) i y) (total (p .crop .width) (p .target .width) (p .crop .height) (p .target .height))
+    pub colour-near : byteAt alphaLane ≡ 255 → (k : ℕ) → k < alphaLane → NearMean k (byteAt k)
     colour-near opaque k l =
-        rw (row-lane k (omega arith) ∙ taken-opaque (p .crop .width) (p .target .width) (p .crop .height) (p .target .height) i y (fits .crop-width) (fits .target-width .most) (fits .crop-height) (fits .target-height .most) inside row (premise .shrinking) (mattedByte p b) matted-picture (sym (row-lane alphaLane (omega arith)) ∙ opaque) k (omega arith))
-        (lane-near k)
+        let e =
+        taken-opaque (p .crop .width) (p .target .width) (p .crop .height) (p .target .height) i y (fits .crop-width) (fits .target-width .most)
+        (fits .crop-height) (fits .target-height .most) inside row (premise .shrinking) (mattedByte p b) matted-picture
+        (sym (row-lane alphaLane (omega arith)) ∙ opaque) k (omega arith) in
+        rw (row-lane k (omega arith) ∙ e) (lane-near k)

@@ -1,36 +1,31 @@
 -- DEMAND 3 proved: each part of the claim follows from the invariant, and a list that offers one row after another and takes what is ready reaches the end.
 -- Assumes nothing.
-use Prim.Native.Nat.{ℕ, zero, suc, _+_, _*_, _-_, _/_, _%_, _≤_, _<_, min}
-use mathlib.Core.Path.{_≡_, refl, sym, _∙_, ap, subst}
+use Prim.Native.Nat.{ℕ, zero, suc, _+_, _-_, _≤_, _<_, min}
+use mathlib.Core.Path.{_≡_, refl}
 use mathlib.Core.Logic.{_⊎_, inl, inr}
-use mathlib.Core.List.{List, [], _∷_, _++_}
+use mathlib.Core.List.{List, []}
 use native.Mathlib.Omega.{arith}
-use native.Mathlib.Nat.{div-add-mod, div-eq-of-lt-le}
-use lib.ListN.{length, getD, take, drop, replicate, length-replicate, length-append, length-drop, take-append-drop}
-use lib.Seq.{take-length, length-take-le}
-use lib.Dec.{eqb}
-use borrow.Author.Tests.{eq-eqb}
+use lib.ListN.{length, getD, take, replicate, length-replicate}
+use lib.Seq.{take-length}
 use Rattle.arithmetic.proofs.Orders.{le-or-lt}
-use Rattle.arithmetic.specs.Weight.{span}
-use Rattle.pixels.specs.declared.Refusal.the-variants.{RowReady, AllAccepted, NoneReady}
-use Rattle.pixels.specs.Sizes.{pixelLanes, rowBytes, pictureBytes, workValues, sizeOf, Fits}
-use Rattle.pixels_layout.specs.Layout.{placeOf, alphaLane}
-use Rattle.pixels_alpha.specs.Alpha.{hasAlpha}
-use Rattle.pixels_crop.specs.Crop.{cropped}
-use Rattle.rows_schedule.proofs.Crop.{rows-all, rows-most}
-use Rattle.rows.specs.Mean.{exactSum, total, Near, Premise}
+use Rattle.pixels.specs.Sizes.{rowBytes}
+use Rattle.rows_schedule.proofs.Crop.{rows-most}
 use Rattle.job_rules.specs.declared.Plan.{Plan}
-use Rattle.job_rules.specs.Rules.{lanesOf, R, startNumber}
+use Rattle.job_rules.specs.Rules.{lanesOf, R}
+use Rattle.job_rules.proofs.Rules.{rules-good}
 use Rattle.job.specs.declared.Job.{Job}
+use Rattle.job.specs.Record.{readyOf}
 use Rattle.job.specs.Calls.{mostRows, count, lentRows}
 use Rattle.job.proofs.Counting.{counted-stop}
+use Rattle.job.proofs.Ready.{ready-some}
 use Rattle.job.proofs.Views
 use Rattle.job.proofs.Views.{WholeRows, TakeWent, OfferWent}
-use Rattle.job_claim.specs.Rows.{rowOf, mattedByte, joined, resized, resizedFlag}
-use Rattle.job_claim.specs.Calls.{Call, Offer, Take, Seen, Run, step, run, begun, offerNumber, offerRows, takeNumber, NoneRefused}
-use Rattle.job_claim.specs.Claim.{RightTake, RightOffer, Ready, Smallest, Claim, Reached, Demand3}
+use Rattle.job_claim.specs.Rows.{rowOf}
+use Rattle.job_claim.specs.Calls.{Seen, Run, begun, offerNumber, offerRows, takeNumber}
+use Rattle.job_claim.specs.Claim.{RightTake, RightOffer, Ready, Smallest, RestStays, Claim, Demand3}
 use Rattle.job_claim.proofs.Taking.{alpha-near, colour-near}
-use Rattle.job_claim.proofs.Invariant.{jobAt, runAt, Inv, Kept, step-kept, run-kept, begun-kept, offer-leads, offer-kept, take-leads, take-kept, count-some, count-most, count-low, count-bytes, tookSeen}
+use Rattle.job_claim.proofs.Invariant.{jobAt, runAt, Inv, run-kept, begun-kept, take-leads, take-kept, count-some, count-most, count-low}
+use Rattle.job_claim.proofs.TurnedAway.{offer-three, offer-five, offer-same, take-four, take-five, take-same}
 use Rattle.job_claim.proofs.Whole.{seen-whole, seen-whole-flag}
 use Rattle.job_claim.proofs.Reaching.{some-list}
 
@@ -68,9 +63,9 @@ module _ (p : Plan) (s : Seen) (work : List ℕ) (v : Inv p s work) where
     rows-are : R p (s .accepted) ≤ s .taken → s .accepted < p .source .height → offerRows r rows lent ≡ count (jobAt p s) (length rows)
     rows-are a l = went a l .some
 
--- ---- the count, in document 01's words
+-- ---- the count, in SCOPE's words
 module _ (j : Job) (n : ℕ) (whole : WholeRows (j .plan) n) (quiet : R (j .plan) (j .accepted) ≤ j .taken) (remain : j .accepted < j .plan .source .height) where
-  count-smallest : Smallest (R (j .plan)) (j .accepted) (j .taken) (lentRows (j .plan) n) (j .plan .source .height - j .accepted) (count j n)
+  count-smallest : Smallest (j .plan) (j .accepted) (j .taken) (lentRows (j .plan) n) (j .plan .source .height - j .accepted) (count j n)
   count-smallest = record {
     with-least = λ c pos above below. least c pos above below (le-or-lt (count j n) c) (le-or-lt (min lent left) (count j n));
     with-none = λ none. no-least none (le-or-lt (min lent left) (count j n));
@@ -140,15 +135,22 @@ ready-only p (suc n) s work v f = by (ready-only p n) (le-or-lt (R p (s .accepte
         ih _ _ (take-kept p s work v out (length work) o) (rw (take-leads p s work v out (length work) o) at (f _ _ b .1)) in
         omega arith
 
+-- the number that the call `ready` returns
+ready-told : (p : Plan) (s : Seen) (work : List ℕ) → Inv p s work → Ready p (runAt p s work) (readyOf (jobAt p s))
+ready-told p s work v =
+    let told = ready-some (jobAt p s) (R p (s .accepted)) (rules-good p (s .accepted) (s .taken) (s .flag) (v .rules)) refl in
+    ready-of p (readyOf (jobAt p s)) s work v (omega (arith, told, v .rules .high))
+
 -- ---- the claim of whatever keeps the invariant
-claimed : (p : Plan) (s : Seen) (work : List ℕ) → Inv p s work → Claim p (runAt p s work)
-claimed p s work v =
+claimed : (p : Plan) (given : List ℕ) (s : Seen) (work : List ℕ) → Inv p s work → RestStays p given work → Claim p given (runAt p s work)
+claimed p given s work v rest =
     let bytes : ℕ → ℕ = λ i. getD (s .source) i 0 in
     let top : R p (s .accepted) ≤ p .target .height = rows-most (p .crop .y) (p .crop .height) (p .target .height) (v .rules .sizes .crop-height) (s .accepted) in
     let row-of : (y : ℕ) → y < s .taken → getD (s .rows) y [] ≡ rowOf p (λ i. getD (s .source) i 0) y = λ y l. v .handed (λ i. getD (s .source) i 0) (λ i h. refl) y l in
     record {
       ready = (R p (s .accepted) - s .taken, ready-of p (R p (s .accepted) - s .taken) s work v (omega (arith, v .rules .high)), omega (arith, v .rules .high));
       ready-only = λ n. ready-only p n s work v;
+      ready-told = ready-told p s work v;
       take-goes = take-succeeds p s work v;
       take-none = take-refused p s work v;
       offer-goes = λ rows lent b e l.
@@ -159,23 +161,30 @@ claimed p s work v =
           rw (rows-are p s work v rows lent b le l) (count-smallest (jobAt p s) (length rows) (whole-rows p s work v rows lent b) le l);
       offer-ready = offer-refused-ready p s work v;
       offer-all = λ rows lent b e l. offer-refused-all p s work v rows lent b (omega arith) l;
+      wrong-rows = offer-three p s work v;
+      offer-short = offer-five p s work v;
+      wrong-out = take-four p s work v;
+      take-short = take-five p s work v;
+      offer-turned = offer-same p s work v;
+      take-turned = take-same p s work v;
       bytes = v .bytes;
       in-source = v .rules .rows;
       in-schedule = v .rules .high;
+      rest-stays = rest;
       handed = v .outs;
       contents = row-of;
       flag = v .flagged;
       near-alpha = λ premise y l i inside. rw (row-of y l) (alpha-near p bytes y i inside (v .rules .sizes) (omega (arith, v .rules .high)) premise);
       near-colour = λ premise y l i inside. rw (row-of y l) (colour-near p bytes y i inside (v .rules .sizes) (omega (arith, v .rules .high)) premise);
-      whole = λ e f. seen-whole p (runAt p s work) (v .rules .sizes) (v .bytes) (v .outs) row-of e f;
-      whole-flag = λ e f. seen-whole-flag p (runAt p s work) (v .rules .sizes) (v .bytes) (v .outs) row-of e f (v .flagged);
+      whole = seen-whole p s work v;
+      whole-flag = seen-whole-flag p s work v;
     }
 
--- DEMAND 3
+-- DEMAND 3, an end in itself
 pub demand-3 : Demand3
 demand-3 = record {
   every-list = λ p work accepted calls.
-      let k = run-kept p calls (begun p work) (begun-kept p work accepted) in
-      rw (k .is) (claimed p (k .seen) (k .work) (k .inv));
+      let k = run-kept p work calls (begun p work) (begun-kept p work accepted) in
+      rw (k .is) (claimed p work (k .seen) (k .work) (k .inv) (k .rest));
   some-list = some-list;
 }

@@ -1,5 +1,4 @@
--- The starred trials of document 01 hold, all together and in every layout: by computing.
--- Assumes nothing.
+-- The starred trials of SCOPE hold, all together and in every layout: by computing. An end in itself. Assumes nothing.
 use mathlib.Core.Path.{refl}
 use Rattle.arithmetic.specs.Quotient.{ceil}
 use Rattle.arithmetic.specs.FixedPoint.{MULT, FLOOR, FRAC}
@@ -20,7 +19,10 @@ use Rattle.job_claim.specs.Rows.{mattedByte, scaledLane, rowOf, rowsOf, 
 use Rattle.job_claim.specs.Trials.{AllHold, trials, givenOf, saidOf, pixel, opaque}
 
 pub all-hold : AllHold
-unfolding trials givenOf saidOf pixel opaque mattedByte scaledLane rowOf rowsOf resized resizedFlag newest shareBefore firstHalf scaledByte scaled share ratio byteDown blend byteUp start over last columnSum carry shrinkValue growValue value made needed since someClear hasAlpha restoredPixel restoredPlace packedByte badSide badSize sizeNumber derivedSide scaledNumber laneOf matteFactor restoreFactor factorOf scaleColour orOnto pixelOf multArgb span growWeight tabulate sum MULT FLOOR FRAC ceil
+unfolding trials givenOf saidOf pixel opaque mattedByte scaledLane rowOf rowsOf resized resizedFlag
+    newest shareBefore firstHalf scaledByte scaled share ratio byteDown blend byteUp start over last columnSum carry shrinkValue growValue value
+    made needed since someClear hasAlpha restoredPixel restoredPlace packedByte badSide badSize sizeNumber derivedSide scaledNumber
+    laneOf matteFactor restoreFactor factorOf scaleColour orOnto pixelOf multArgb span growWeight tabulate sum MULT FLOOR FRAC ceil
 all-hold Rgba8 = refl
 all-hold Argb8 = refl
 all-hold Bgra8 = refl

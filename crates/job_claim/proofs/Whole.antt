@@ -1,16 +1,15 @@
--- The rows of a job are the rows of crop then resize (document 01, "The job": "`resize` is a job with the full crop"). Why: byte z of row c of the cropped
+-- The rows of a job are the rows of crop then resize (SCOPE, "The job": "`resize` is a job with the full crop"). Why: byte z of row c of the cropped
 -- picture is the source's byte of that place counted from the crop's corner, so both have the same matted bytes; and the closed form of an output row
 -- reads no row or column beyond the crop. Assumes nothing.
-use Prim.Native.Nat.{ℕ, zero, suc, _+_, _*_, _/_, _%_, _≤_, _<_}
+use Prim.Native.Nat.{ℕ, zero, suc, _+_, _-_, _*_, _/_, _%_, _≤_, _<_}
 use mathlib.Core.Path.{_≡_, refl, sym, ap, ap₂, _∙_}
 use mathlib.Core.Bool.{Bool, false}
-use mathlib.Core.Logic.{⊎-elim}
+use mathlib.Core.Logic.{_⊎_, inl, inr, ⊎-elim}
 use mathlib.Core.List.{List, [], _∷_, _++_}
 use native.Mathlib.Omega.{arith}
-use native.Mathlib.Nat.{mul-le-mul-left, le-of-suc-le-suc, eq-or-lt-of-le}
-use lib.ListN.{length, getD, take, drop, length-append, length-drop, List·getD-append}
+use native.Mathlib.Nat.{mul-le-mul-left, le-of-mul-le-mul-right, le-of-suc-le-suc, eq-or-lt-of-le}
+use lib.ListN.{length, getD, take, length-append, List·getD-append}
 use lib.Seq.{length-take-le, take-suc, take-all, getD-take, getD-append-add}
-use borrow.Author.Tests.{le-leb}
 use Rattle.arithmetic.specs.Matte.{laneOf, multArgb}
 use Rattle.arithmetic.specs.Weight.{span}
 use Rattle.arithmetic.proofs.Tables.{length-tabulate, tabulate-cong}
@@ -22,21 +21,23 @@ use Rattle.pixels_layout.specs.Lanes.{restoredPlace}
 use Rattle.pixels_alpha.specs.Alpha.{hasAlpha}
 use Rattle.pixels_crop.specs.Crop.{windowOf, pictureRow, croppedRows, cropped}
 use Rattle.pixels_layout.proofs.Tabled.{place-lt}
-use Rattle.rows_schedule.proofs.Crop.{rows-all}
-use Rattle.rows_schedule.proofs.Needed.{needed-le}
+use Rattle.arithmetic.proofs.Orders.{le-or-lt}
+use Rattle.rows_schedule.specs.Schedule.{used, rowsBy, needed}
+use Rattle.rows_schedule.proofs.Needed.{needed-le, needed-le-made, needed-some, down-low, up-low}
 use Rattle.rows.specs.Column.{value}
 use Rattle.rows.specs.Closed.{scaled}
 use Rattle.rows_laws.proofs.Reach.{scaledByte-same}
 use Rattle.job_rules.specs.declared.Plan.{Plan}
-use Rattle.job_rules.specs.Rules.{lanesOf, R}
+use Rattle.job_rules.specs.Rules.{lanesOf}
 use Rattle.job_claim.specs.Rows.{sourceByte, mattedByte, scaledLane, rowOf, joined, rowsOf, resizePlan, resized, resizedFlag}
-use Rattle.job_claim.specs.Calls.{Run}
+use Rattle.job_claim.specs.Calls.{Seen}
 use Rattle.arithmetic.proofs.Mattes.{pixel-cong}
 use Rattle.pixels_layout.proofs.Matted.{restored-cong}
 use Rattle.pixels_crop.proofs.Windows.{window-byte, window-length}
 use Rattle.job_claim.proofs.Reading.{value-cong}
 use Rattle.job_claim.proofs.Feeding.{row-length, row-byte}
 use Rattle.job_claim.proofs.Flagged.{joined-append}
+use Rattle.job_claim.proofs.Invariant.{Inv}
 
 -- ---- the cropped picture
 
@@ -47,16 +48,14 @@ cropRow pixels w crop c = windowOf pixelLanes (pictureRow pixelLanes pixels w (c
 abbrev cropPlace : ℕ → Rect → ℕ → ℕ → ℕ
 cropPlace w crop c z = rowBytes pixelLanes w * (crop .y + c) + (rowBytes pixelLanes (crop .x) + z)
 
-module _ (source : Dimensions) (crop : Rect) (target : Dimensions) (pixels : List ℕ) (fits : Fits source crop target) (long : length pixels ≡ pictureBytes pixelLanes (source .width) (source .height)) where
-  all-here : pictureBytes pixelLanes (source .width) (source .height) ≤ length pixels
-  all-here = omega arith
-
+-- `long`: the pixels reach to the crop's last row
+module _ (source : Dimensions) (crop : Rect) (target : Dimensions) (pixels : List ℕ) (fits : Fits source crop target) (long : pictureBytes pixelLanes (source .width) (crop .y + crop .height) ≤ length pixels) where
   module _ (c : ℕ) (in-crop : c < crop .height) where
-    in-source : crop .y + c < source .height
-    in-source = omega (arith, fits .bottom)
+    here : crop .y + c < crop .y + crop .height
+    here = omega arith
 
     inside : rowBytes pixelLanes (crop .x + crop .width) ≤ length (pictureRow pixelLanes pixels (source .width) (crop .y + c))
-    inside = rw (row-length pixels (source .width) (source .height) (crop .y + c) all-here in-source) (mul-le-mul-left pixelLanes (fits .right))
+    inside = rw (row-length pixels (source .width) (crop .y + crop .height) (crop .y + c) long here) (mul-le-mul-left pixelLanes (fits .right))
 
     part-length : length (cropRow pixels (source .width) crop c) ≡ rowBytes pixelLanes (crop .width)
     part-length = window-length pixelLanes (pictureRow pixelLanes pixels (source .width) (crop .y + c)) (crop .x) (crop .width) inside
@@ -64,7 +63,7 @@ module _ (source : Dimensions) (crop : Rect) (target : Dimensions) (pixels : Lis
     part-byte : (z : ℕ) → z < rowBytes pixelLanes (crop .width) → getD (cropRow pixels (source .width) crop c) z 0 ≡ getD pixels (cropPlace (source .width) crop c z) 0
     part-byte z l =
         window-byte pixelLanes (pictureRow pixelLanes pixels (source .width) (crop .y + c)) (crop .x) (crop .width) inside z l
-        ∙ row-byte pixels (source .width) (source .height) (crop .y + c) all-here in-source (rowBytes pixelLanes (crop .x) + z) (omega (arith, fits .right))
+        ∙ row-byte pixels (source .width) (crop .y + crop .height) (crop .y + c) long here (rowBytes pixelLanes (crop .x) + z) (omega (arith, fits .right))
 
   -- the first n rows of the crop
   parts-length : (n : ℕ) → n ≤ crop .height → length (croppedRows pixels (source .width) crop n) ≡ rowBytes pixelLanes (crop .width) * n
@@ -90,10 +89,6 @@ module _ (source : Dimensions) (crop : Rect) (target : Dimensions) (pixels : Lis
       List·getD-append before (cropRow pixels (source .width) crop n) 0 (rowBytes pixelLanes (crop .width) * c + z) (omega (arith, mul-le-mul-left (rowBytes pixelLanes (crop .width)) m))
       ∙ parts-byte n (omega arith) c z m u)
       (eq-or-lt-of-le (le-of-suc-le-suc l))
-
-  pub cropped-length : length (cropped source crop pixels) ≡ pictureBytes pixelLanes (crop .width) (crop .height)
-  unfolding cropped
-  cropped-length = parts-length (crop .height) (omega arith)
 
   pub cropped-byte : (c z : ℕ) → c < crop .height → z < rowBytes pixelLanes (crop .width)
       → getD (cropped source crop pixels) (rowBytes pixelLanes (crop .width) * c + z) 0 ≡ getD pixels (rowBytes pixelLanes (source .width) * (crop .y + c) + (rowBytes pixelLanes (crop .x) + z)) 0
@@ -140,7 +135,7 @@ sourceOf pixels i = getD pixels i 0
 abbrev pub croppedOf : Plan → List ℕ → ℕ → ℕ
 croppedOf p pixels i = getD (cropped (p .source) (p .crop) pixels) i 0
 
-module _ (p : Plan) (pixels : List ℕ) (fits : Fits (p .source) (p .crop) (p .target)) (long : length pixels ≡ pictureBytes pixelLanes (p .source .width) (p .source .height)) where
+module _ (p : Plan) (pixels : List ℕ) (fits : Fits (p .source) (p .crop) (p .target)) (long : pictureBytes pixelLanes (p .source .width) (p .crop .y + p .crop .height) ≤ length pixels) where
   same-byte : (c i k : ℕ) → c < p .crop .height → i < p .crop .width → k < pixelLanes
       → sourceByte p (sourceOf pixels) c i k ≡ sourceByte (wholePlan p) (croppedOf p pixels) c i k
   same-byte c i k l u v =
@@ -188,18 +183,36 @@ module _ (p : Plan) (pixels : List ℕ) (fits : Fits (p .source) (p .crop) (p .t
     crop-then-resize-flag f flag =
         flag ∙ ap (λ (s : List ℕ). hasAlpha (p .layout) s (p .target .width * p .target .height)) crop-then-resize
 
--- ---- at the end of a list of calls, from what was counted
-module _ (p : Plan) (r : Run) (fits : Fits (p .source) (p .crop) (p .target)) (bytes : length (r .seen .source) ≡ rowBytes (lanesOf p) (p .source .width) * r .seen .accepted) (handed : length (r .seen .rows) ≡ r .seen .taken) (contents : (y : ℕ) → y < r .seen .taken → getD (r .seen .rows) y [] ≡ rowOf p (λ i. getD (r .seen .source) i 0) y) (at-end : r .seen .accepted ≡ p .source .height) (all-taken : r .seen .taken ≡ R p (p .source .height)) where
-  all-rows : r .seen .taken ≡ p .target .height
-  all-rows =
-      all-taken ∙ rows-all (p .crop .y) (p .crop .height) (p .target .height) (fits .crop-height) (p .source .height) (fits .bottom)
+-- ---- all rows are made only once the crop's last row came
+rows-reach : (top h g k : ℕ) → 0 < h → 0 < g → g ≤ rowsBy top h g k → top + h ≤ k
+rows-reach top h g k ph pg all =
+    let y : ℕ = g - 1 in
+    let used-all : needed h g y ≤ used top h k = needed-le-made h g (used top h k) y ph pg (omega arith) in
+    omega (arith, last-needs (le-or-lt g h))
+  where
+    last-needs : (g ≤ h) ⊎ (h < g) → h ≤ needed h g (g - 1)
+    last-needs (inl l) =
+        let e : suc (g - 1) ≡ g = omega arith in
+        let q : g * h ≤ needed h g (g - 1) * g = rw e at (down-low h g (g - 1) pg l) in
+        le-of-mul-le-mul-right {m = h} {n = needed h g (g - 1)} {k = g} (omega arith) pg
+    last-needs (inr l) =
+        let q : h - 1 ≤ needed h g (g - 1) - 1 = le-of-mul-le-mul-right {m = h - 1} {n = needed h g (g - 1) - 1} {k = g - 1} (omega (arith, up-low h g (g - 1) ph l)) (omega arith) in
+        omega (arith, needed-some h g (g - 1) ph pg)
 
-  pub seen-whole : joined (r .seen .rows) ≡ resized (sizeOf (p .crop .width) (p .crop .height)) (p .layout) (p .target) (cropped (p .source) (p .crop) (r .seen .source))
-  seen-whole =
-      crop-then-resize p (r .seen .source) fits (rw at-end at bytes) (r .seen .rows) (handed ∙ all-rows) (λ y l. contents y (omega (arith, all-rows)))
+-- ---- at the end of a list of calls, from what was counted, whatever bytes may follow the accepted ones
+module _ (p : Plan) (s : Seen) (work : List ℕ) (v : Inv p s work) (all-taken : s .taken ≡ p .target .height) (more : List ℕ) where
+  long : pictureBytes pixelLanes (p .source .width) (p .crop .y + p .crop .height) ≤ length (s .source ++ more)
+  long =
+      let sizes = v .rules .sizes in
+      let reach = rows-reach (p .crop .y) (p .crop .height) (p .target .height) (s .accepted) (sizes .crop-height) (sizes .target-height .some) (omega (arith, v .rules .high)) in
+      omega (arith, length-append (s .source) more, v .bytes, mul-le-mul-left (rowBytes pixelLanes (p .source .width)) reach)
 
-  pub seen-whole-flag : r .seen .flag ≡ hasAlpha (p .layout) (joined (r .seen .rows)) (p .target .width * r .seen .taken)
-      → r .seen .flag ≡ resizedFlag (sizeOf (p .crop .width) (p .crop .height)) (p .layout) (p .target) (cropped (p .source) (p .crop) (r .seen .source))
-  seen-whole-flag flag =
-      crop-then-resize-flag p (r .seen .source) fits (rw at-end at bytes) (r .seen .rows) (handed ∙ all-rows) (λ y l. contents y (omega (arith, all-rows)))
-      (r .seen .flag) (rw all-rows at flag)
+  rows-are : (y : ℕ) → y < p .target .height → getD (s .rows) y [] ≡ rowOf p (λ i. getD (s .source ++ more) i 0) y
+  rows-are y l = v .handed (λ i. getD (s .source ++ more) i 0) (λ i u. sym (List·getD-append (s .source) more 0 i u)) y (omega arith)
+
+  pub seen-whole : joined (s .rows) ≡ resized (sizeOf (p .crop .width) (p .crop .height)) (p .layout) (p .target) (cropped (p .source) (p .crop) (s .source ++ more))
+  seen-whole = crop-then-resize p (s .source ++ more) (v .rules .sizes) long (s .rows) (v .outs ∙ all-taken) rows-are
+
+  pub seen-whole-flag : s .flag ≡ resizedFlag (sizeOf (p .crop .width) (p .crop .height)) (p .layout) (p .target) (cropped (p .source) (p .crop) (s .source ++ more))
+  seen-whole-flag =
+      crop-then-resize-flag p (s .source ++ more) (v .rules .sizes) long (s .rows) (v .outs ∙ all-taken) rows-are (s .flag) (rw all-taken at (v .flagged))

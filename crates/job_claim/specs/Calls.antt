@@ -1,4 +1,4 @@
--- A list of calls from a fresh job, and what is counted from the calls and their answers, never read from the record (document 01, "The list of demand 3").
+-- A list of calls from a fresh job, and what is counted from the calls and their answers, never read from the record (SCOPE, "The list of demand 3").
 -- The answers are the definitions that stand in the contracts of start, offer and take. Assumes nothing.
 use Prim.Native.Nat.{ℕ, _+_, _*_}
 use mathlib.Core.Bool.{Bool, false, cond}
@@ -48,6 +48,10 @@ offerRows r rows lent = job.offerRows (r .job) (length rows) (length (take lent 
 abbrev pub takeNumber : Run → List ℕ → ℕ → ℕ
 takeNumber r out lent = job.takeNumber (r .job) (length out) (length (take lent (r .work)))
 
+-- the output buffer after the next take
+abbrev pub takeOut : Run → List ℕ → ℕ → List ℕ
+takeOut r out lent = job.takeOut (r .job) out (take lent (r .work))
+
 -- ---- what is counted
 
 -- "Accepted is the sum of the counts"; "The first rows of each accepting offer, as many as its count, joined in order"
@@ -82,7 +86,7 @@ step p r (Take out lent) =
     record {
       job = job.takeJob (r .job) (length out) part;
       work = job.takeWork (r .job) (length out) part ++ drop lent (r .work);
-      seen = seenTake (r .seen) (takeNumber r out lent) (job.takeOut (r .job) out part) (job.takeJob (r .job) (length out) part .flag);
+      seen = seenTake (r .seen) (takeNumber r out lent) (takeOut r out lent) (job.takeJob (r .job) (length out) part .flag);
     }
 
 unfoldable pub run : Plan → Run → List Call → Run

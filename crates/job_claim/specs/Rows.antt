@@ -1,5 +1,5 @@
--- The rows of a preview as closed expressions of the source's bytes, b i being byte i (document 01, "A row comes in", "A row goes out" and "The list of demand 3").
--- No call, no record and no work value is mentioned. Assumes nothing.
+-- The rows of a preview as closed expressions of the source's bytes, b i being byte i (SCOPE, "A row comes in", "A row goes out", "The list of demand 3", "The job" and
+-- "Lanes"). No call, no record and no work value is mentioned. Assumes nothing.
 use Prim.Native.Nat.{ℕ, zero, suc, _+_, _*_, _/_, _%_}
 use mathlib.Core.Bool.{Bool, false}
 use mathlib.Core.List.{List, [], _∷_, _++_}
@@ -9,7 +9,7 @@ use Rattle.arithmetic.specs.Matte.{laneOf, pixelOf, multArgb}
 use Rattle.pixels.specs.declared.Dimensions.{Dimensions}
 use Rattle.pixels.specs.declared.Rect.{Rect}
 use Rattle.pixels_layout.specs.declared.PixelLayout.{PixelLayout}
-use Rattle.pixels.specs.Sizes.{pixelLanes, rowBytes, rectOf}
+use Rattle.pixels.specs.Sizes.{rowBytes, rectOf}
 use Rattle.pixels_layout.specs.Layout.{placeOf}
 use Rattle.pixels_layout.specs.Lanes.{restoredPlace}
 use Rattle.pixels_alpha.specs.Alpha.{hasAlpha}

@@ -1,7 +1,7 @@
--- The starred trials of document 01, "Trials", as one table: what the definitions give beside what the document says. The definitions are those
--- that the contracts of resize, mult_argb, scaled and rows_by cite. The table is there for every layout. proofs/Trials.antt proves all rows together.
--- Assumes nothing.
-use Prim.Native.Nat.{ℕ}
+-- The starred trials of SCOPE, "Trials", as one table: what the definitions give beside what the document says. The definitions are those
+-- that the contracts of resize, mult_argb, scaled and rows_by cite. The table is there for every layout. proofs/Trials.antt proves all rows together,
+-- proofs/AnyPixel.antt the two that speak of any pixel for every pixel. Assumes nothing.
+use Prim.Native.Nat.{ℕ, _<_}
 use mathlib.Core.Bool.{Bool, true, false, cond}
 use mathlib.Core.List.{List, [], _∷_, _++_}
 use mathlib.Core.Path.{_≡_}
@@ -88,3 +88,14 @@ trials l =
 -- what is proved: the two columns are the same
 abbrev pub AllHold : Type 0
 AllHold = (l : PixelLayout) → givenOf (trials l) ≡ saidOf (trials l)
+
+-- ---- the two that speak of any pixel, for every pixel
+
+-- "1 by 1 to 1 by 2: all 0", whatever the bytes are
+abbrev pub AllZero : Type 0
+AllZero = (l : PixelLayout) (a r g b : ℕ) → resized (sizeOf 1 1) l (sizeOf 1 2) (pixel l a r g b) ≡ pixel l 0 0 0 0 ++ pixel l 0 0 0 0
+
+-- "Opaque 1 by 1 to 2 by 1: the pixel twice", whatever the colours are
+abbrev pub PixelTwice : Type 0
+PixelTwice = (l : PixelLayout) (r g b : ℕ) → r < 256 → g < 256 → b < 256
+    → resized (sizeOf 1 1) l (sizeOf 2 1) (pixel l 255 r g b) ≡ pixel l 255 r g b ++ pixel l 255 r g b

@@ -1,2 +1,4 @@
 pub mod Clauses
+pub mod Fields
+pub mod Getters
 pub mod Tag

@@ -1,4 +1,4 @@
-// A borrowed picture (document 01, "Lanes": "A borrowed picture, as `ImageRef`, holds size, layout and pixels"; the Rust: ImageRef of image.rs).
+// A borrowed picture (SCOPE, "Lanes": "A borrowed picture, as `ImageRef`, holds size, layout and pixels"; the Rust: ImageRef of image.rs).
 // Each function over it takes it apart and calls a function of plain parameters, which does the work.
 use job_resize::resize;
 use pixels::Checked;
@@ -78,7 +78,7 @@ fn resize_of(
 
 impl<'a> ImageRef<'a> {
     // The Rust's new, which tests the length; the size is tested too, since a size counts, whoever filled it.
-    // Rules out: a length of three bytes for each pixel passed; the size handed back with its sides exchanged.
+    // Rules out: twelve bytes for each pixel passed; the size handed back with its sides exchanged.
     pub fn new(dims: Dimensions, layout: PixelLayout, pixels: &'a [u8]) -> Borrowed<'a>
         ensures number { λ r. ⌜ checkedNumber (r .checked) ≡ pictureNumber dims (length (now (pixels .entry))) ⌝ }
         ensures dims { λ r. ⌜ r .image .dims ≡ dims ⌝ }
@@ -125,7 +125,7 @@ impl<'a> ImageRef<'a> {
         flag_of(self.dims, self.layout, self.pixels)
     }
 
-    // The Rust's Image::crop. Rules out: the flag of another layout; the output left as it was.
+    // The Rust's Image::crop. Rules out: the flag of another layout; every crop from the left edge.
     pub fn crop(self, rect: Rect, out: &mut [u8]) -> Flagged
         ensures number { λ r. ⌜ flaggedNumber r ≡ cropNumber (self .entry .dims) rect (length (now (self .entry .pixels))) (length (now (out .entry))) ⌝ }
         ensures flag { λ r. ⌜ flaggedFlag r ≡ cropFlag (self .entry .dims) (self .entry .layout) rect (now (self .entry .pixels)) (length (now (out .entry))) ⌝ }
@@ -134,7 +134,7 @@ impl<'a> ImageRef<'a> {
         crop_of(self.dims, self.layout, self.pixels, rect, out)
     }
 
-    // The Rust's Image::resize. Rules out: a picture of the source's own size; the work values left as they were.
+    // The Rust's Image::resize. Rules out: a picture of the source's own size; one of another layout.
     pub fn resize(self, target: Dimensions, out: &mut [u8], work: &mut [u32]) -> Flagged
         ensures number { λ r. ⌜ flaggedNumber r ≡ resizeNumber (self .entry .dims) target (length (now (self .entry .pixels))) (length (now (out .entry))) (length (now (work .entry))) ⌝ }
         ensures flag { λ r. ⌜ flaggedFlag r ≡ resizeFlag (self .entry .dims) (self .entry .layout) target (now (self .entry .pixels)) (length (now (out .entry))) (length (now (work .entry))) ⌝ }

@@ -82,55 +82,62 @@ halves w work room =
 
 -- ---- the halves of the end
 module _ (p : Plan) (b : ℕ → ℕ) (work : List ℕ) (ph : 0 < p .crop .height) (pg : 0 < p .target .height) (held : Held (scaleBy p) (cropValue p b) (p .crop .height) (p .target .height) work) where
+  abbrev w : ℕ
+  w = halfValues (lanesOf p) (p .target .width)
+
+  abbrev h : ℕ
+  h = p .crop .height
+
+  abbrev g : ℕ
+  g = p .target .height
+
   value-is : (x : ℕ) → (λ c. cropValue p b c x) ≡ rowValueAt p b x
   unfolding cropValue rowValueAt
   value-is x = refl
 
-  pub first-is : (x : ℕ) → x < halfValues (lanesOf p) (p .target .width) → getD work x 0 ≡ lastFirst p b x
+  pub first-is : (x : ℕ) → x < w → getD work x 0 ≡ lastFirst p b x
   unfolding lastFirst
-  first-is x l = by (le-or-lt (p .target .height) (p .crop .height))
+  first-is x l = by (le-or-lt g h)
     where
-      h : ℕ
-      h = p .crop .height
-
-      by : (p .target .height ≤ p .crop .height) ⊎ (p .crop .height < p .target .height) → getD work x 0 ≡ cond (leb (p .target .height) (p .crop .height)) 0 (newest (rowValueAt p b x) (cond (eqb (p .crop .height % 2) 0) (p .crop .height) (p .crop .height - 1)))
-      by (inl m) = simp (le-leb (p .target .height) (p .crop .height) m) (held .first m x l ∙ firstHalf-last (p .crop .height) (p .target .height) (λ c. cropValue p b c x) ph pg)
-      by (inr m) = simp (lt-leb (p .target .height) (p .crop .height) m) (or (parity (p .crop .height)))
+      by : (g ≤ h) ⊎ (h < g) → getD work x 0 ≡ cond (leb g h) 0 (newest (rowValueAt p b x) (cond (eqb (h % 2) 0) h (h - 1)))
+      by (inl m) = simp (le-leb g h m) (held .first m x l ∙ firstHalf-last h g (λ c. cropValue p b c x) ph pg)
+      by (inr m) = simp (lt-leb g h m) (or (parity h))
         where
-          or : (p .crop .height % 2 ≡ 0) ⊎ (p .crop .height % 2 ≡ 1) → getD work x 0 ≡ newest (rowValueAt p b x) (cond (eqb (p .crop .height % 2) 0) (p .crop .height) (p .crop .height - 1))
+          or : (h % 2 ≡ 0) ⊎ (h % 2 ≡ 1) → getD work x 0 ≡ newest (rowValueAt p b x) (cond (eqb (h % 2) 0) h (h - 1))
           or (inl e) =
-              let o : suc (p .crop .height) % 2 ≡ 1 = omega arith in
-              let n : getD work (halfOf (halfValues (lanesOf p) (p .target .width)) (suc (p .crop .height)) + x) 0 ≡ newest (λ c. cropValue p b c x) (p .crop .height) = held .newer m x l in
-              simp (eq-eqb (p .crop .height % 2) 0 e)
-              (sym (ap (λ (t : ℕ). getD work t 0) (ap (λ (t : ℕ). t + x) (half-odd (halfValues (lanesOf p) (p .target .width)) (suc (p .crop .height)) o) ∙ zero-add x)) ∙ n ∙ ap (λ (f : ℕ → ℕ). newest f (p .crop .height)) (value-is x))
+              let o : suc h % 2 ≡ 1 = omega arith in
+              let n : getD work (halfOf w (suc h) + x) 0 ≡ newest (λ c. cropValue p b c x) h = held .newer m x l in
+              simp (eq-eqb (h % 2) 0 e)
+              (sym (ap (λ (t : ℕ). getD work t 0) (ap (λ (t : ℕ). t + x) (half-odd w (suc h) o) ∙ zero-add x)) ∙ n ∙ ap (λ (f : ℕ → ℕ). newest f h) (value-is x))
           or (inr e) =
-              let n : getD work (halfOf (halfValues (lanesOf p) (p .target .width)) (p .crop .height) + x) 0 ≡ newest (λ c. cropValue p b c x) (p .crop .height - 1) = held .older m x l in
-              simp (ne-eqb (p .crop .height % 2) 0 (λ z. omega arith))
-              (sym (ap (λ (t : ℕ). getD work t 0) (ap (λ (t : ℕ). t + x) (half-odd (halfValues (lanesOf p) (p .target .width)) (p .crop .height) e) ∙ zero-add x)) ∙ n ∙ ap (λ (f : ℕ → ℕ). newest f (p .crop .height - 1)) (value-is x))
+              let n : getD work (halfOf w h + x) 0 ≡ newest (λ c. cropValue p b c x) (h - 1) = held .older m x l in
+              simp (ne-eqb (h % 2) 0 (λ z. omega arith))
+              (sym (ap (λ (t : ℕ). getD work t 0) (ap (λ (t : ℕ). t + x) (half-odd w h e) ∙ zero-add x)) ∙ n ∙ ap (λ (f : ℕ → ℕ). newest f (h - 1)) (value-is x))
 
-  pub second-is : (x : ℕ) → x < halfValues (lanesOf p) (p .target .width) → getD work (halfValues (lanesOf p) (p .target .width) + x) 0 ≡ lastSecond p b x
+  pub second-is : (x : ℕ) → x < w → getD work (w + x) 0 ≡ lastSecond p b x
   unfolding lastSecond
-  second-is x l = by (le-or-lt (p .target .height) (p .crop .height))
+  second-is x l = by (le-or-lt g h)
     where
-      by : (p .target .height ≤ p .crop .height) ⊎ (p .crop .height < p .target .height) → getD work (halfValues (lanesOf p) (p .target .width) + x) 0 ≡ cond (leb (p .target .height) (p .crop .height)) (newest (rowValueAt p b x) (p .crop .height)) (newest (rowValueAt p b x) (cond (eqb (p .crop .height % 2) 0) (p .crop .height - 1) (p .crop .height)))
-      by (inl m) = simp (le-leb (p .target .height) (p .crop .height) m) (held .second m x l ∙ ap (λ (f : ℕ → ℕ). newest f (p .crop .height)) (value-is x))
-      by (inr m) = simp (lt-leb (p .target .height) (p .crop .height) m) (or (parity (p .crop .height)))
+      by : (g ≤ h) ⊎ (h < g) → getD work (w + x) 0 ≡ cond (leb g h) (newest (rowValueAt p b x) h) (newest (rowValueAt p b x) (cond (eqb (h % 2) 0) (h - 1) h))
+      by (inl m) = simp (le-leb g h m) (held .second m x l ∙ ap (λ (f : ℕ → ℕ). newest f h) (value-is x))
+      by (inr m) = simp (lt-leb g h m) (or (parity h))
         where
-          or : (p .crop .height % 2 ≡ 0) ⊎ (p .crop .height % 2 ≡ 1) → getD work (halfValues (lanesOf p) (p .target .width) + x) 0 ≡ newest (rowValueAt p b x) (cond (eqb (p .crop .height % 2) 0) (p .crop .height - 1) (p .crop .height))
+          or : (h % 2 ≡ 0) ⊎ (h % 2 ≡ 1) → getD work (w + x) 0 ≡ newest (rowValueAt p b x) (cond (eqb (h % 2) 0) (h - 1) h)
           or (inl e) =
-              let n : getD work (halfOf (halfValues (lanesOf p) (p .target .width)) (p .crop .height) + x) 0 ≡ newest (λ c. cropValue p b c x) (p .crop .height - 1) = held .older m x l in
-              simp (eq-eqb (p .crop .height % 2) 0 e)
-              (sym (ap (λ (t : ℕ). getD work (t + x) 0) (half-even (halfValues (lanesOf p) (p .target .width)) (p .crop .height) e)) ∙ n ∙ ap (λ (f : ℕ → ℕ). newest f (p .crop .height - 1)) (value-is x))
+              let n : getD work (halfOf w h + x) 0 ≡ newest (λ c. cropValue p b c x) (h - 1) = held .older m x l in
+              simp (eq-eqb (h % 2) 0 e)
+              (sym (ap (λ (t : ℕ). getD work (t + x) 0) (half-even w h e)) ∙ n ∙ ap (λ (f : ℕ → ℕ). newest f (h - 1)) (value-is x))
           or (inr e) =
-              let o : suc (p .crop .height) % 2 ≡ 0 = omega arith in
-              let n : getD work (halfOf (halfValues (lanesOf p) (p .target .width)) (suc (p .crop .height)) + x) 0 ≡ newest (λ c. cropValue p b c x) (p .crop .height) = held .newer m x l in
-              simp (ne-eqb (p .crop .height % 2) 0 (λ z. omega arith))
-              (sym (ap (λ (t : ℕ). getD work (t + x) 0) (half-even (halfValues (lanesOf p) (p .target .width)) (suc (p .crop .height)) o)) ∙ n ∙ ap (λ (f : ℕ → ℕ). newest f (p .crop .height)) (value-is x))
+              let o : suc h % 2 ≡ 0 = omega arith in
+              let n : getD work (halfOf w (suc h) + x) 0 ≡ newest (λ c. cropValue p b c x) h = held .newer m x l in
+              simp (ne-eqb (h % 2) 0 (λ z. omega arith))
+              (sym (ap (λ (t : ℕ). getD work (t + x) 0) (half-even w (suc h) o)) ∙ n ∙ ap (λ (f : ℕ → ℕ). newest f h) (value-is x))
 
-  pub work-is : tabulate (λ x. getD work x 0) (halfValues (lanesOf p) (p .target .width)) ++ (tabulate (λ x. getD work (halfValues (lanesOf p) (p .target .width) + x) 0) (halfValues (lanesOf p) (p .target .width)) ++ drop (halfValues (lanesOf p) (p .target .width) + halfValues (lanesOf p) (p .target .width)) work) ≡ tabulate (lastFirst p b) (halfValues (lanesOf p) (p .target .width)) ++ (tabulate (lastSecond p b) (halfValues (lanesOf p) (p .target .width)) ++ drop (halfValues (lanesOf p) (p .target .width) + halfValues (lanesOf p) (p .target .width)) work)
+  pub work-is : tabulate (λ x. getD work x 0) w ++ (tabulate (λ x. getD work (w + x) 0) w ++ drop (w + w) work)
+      ≡ tabulate (lastFirst p b) w ++ (tabulate (lastSecond p b) w ++ drop (w + w) work)
   work-is =
-      ap₂ _++_ (tabulate-cong _ _ (halfValues (lanesOf p) (p .target .width)) first-is)
-      (ap (λ (s : List ℕ). s ++ drop (halfValues (lanesOf p) (p .target .width) + halfValues (lanesOf p) (p .target .width)) work) (tabulate-cong _ _ (halfValues (lanesOf p) (p .target .width)) second-is))
+      ap₂ _++_ (tabulate-cong _ _ w first-is)
+      (ap (λ (s : List ℕ). s ++ drop (w + w) work) (tabulate-cong _ _ w second-is))
 
 -- ---- the end, all rows taken
 module _ (p : Plan) (pixels out₀ work₀ : List ℕ) (j : Job) (out work : List ℕ) (g : Going p pixels out₀ work₀ j out work) (all : j .plan .target .height ≤ j .taken) where

@@ -24,7 +24,7 @@ use Rattle.job_rules.proofs.Rules.{rules-good}
 use Rattle.job.proofs.Views.{take-went}
 use Rattle.job.proofs.Counting.{counted-stop}
 use Rattle.job_claim.proofs.Invariant.{count-most}
-use Rattle.job_resize.specs.Inner.{Asked, restOf, fedJob, fedWork}
+use Rattle.job_resize.specs.Inner.{Asked, restOf, fedJob, fedWork, rowSize, fromNext, emittedOut}
 use Rattle.job_resize.proofs.Going.{bytesOf, Going, rowsOf-length, going-first, remain, lent-length, offered, offer-going, take-accepted, take-going}
 
 -- ---- at the start
@@ -48,9 +48,9 @@ module _ (p : Plan) (pixels out₀ work₀ : List ℕ) (j : Job) (out work : Lis
   pub pixels-room : rowBytes (lanesOf (j .plan)) (j .plan .source .width) * j .accepted ≤ length pixels
   pixels-room = rw (g .pixels-long) (mul-le-mul-left (rowBytes (lanesOf (j .plan)) (j .plan .source .width)) (g .rules .rows))
 
-  pub out-length : j .taken ≤ j .plan .target .height → length out ≡ rowBytes (lanesOf (j .plan)) (j .plan .target .width) * j .plan .target .height
+  pub out-length : j .taken ≤ j .plan .target .height → length out ≡ rowSize j * j .plan .target .height
   out-length l =
-      let w : ℕ = rowBytes (lanesOf (j .plan)) (j .plan .target .width) in
+      let w : ℕ = rowSize j in
       let k = rowsOf-length (j .plan) (bytesOf pixels) (j .taken) in
       let a = length-append (rowsOf-here) (drop (w * j .taken) out₀) in
       let d : length (drop (w * j .taken) out₀) ≡ w * j .plan .target .height - w * j .taken = length-drop (w * j .taken) out₀ ∙ ap (λ (n : ℕ). n - w * j .taken) (g .out-long) in
@@ -117,22 +117,20 @@ module _ (p : Plan) (pixels out₀ work₀ : List ℕ) (j : Job) (out work : Lis
 
 -- ---- the row that is ready goes to its place
 module _ (p : Plan) (pixels out₀ work₀ : List ℕ) (j : Job) (out work : List ℕ) (g : Going p pixels out₀ work₀ j out work) (ready : j .taken < R (j .plan) (j .accepted)) (below : j .taken < j .plan .target .height) where
-  pub place-room : rowBytes (lanesOf (j .plan)) (j .plan .target .width) * j .taken + rowBytes (lanesOf (j .plan)) (j .plan .target .width) ≤ length out
-  place-room = rw (out-length p pixels out₀ work₀ j out work g (omega arith)) (omega (arith, mul-le-mul-left (rowBytes (lanesOf (j .plan)) (j .plan .target .width)) below))
+  pub place-room : rowSize j * j .taken + rowSize j ≤ length out
+  place-room = rw (out-length p pixels out₀ work₀ j out work g (omega arith)) (omega (arith, mul-le-mul-left (rowSize j) below))
 
   abbrev pub part : List ℕ
-  part = take (rowBytes (lanesOf (j .plan)) (j .plan .target .width)) (drop (rowBytes (lanesOf (j .plan)) (j .plan .target .width) * j .taken) out)
+  part = take (rowSize j) (fromNext j out)
 
-  part-exact : length part ≡ rowBytes (lanesOf (j .plan)) (j .plan .target .width)
+  part-exact : length part ≡ rowSize j
   part-exact =
-      length-take-le (rowBytes (lanesOf (j .plan)) (j .plan .target .width)) (drop (rowBytes (lanesOf (j .plan)) (j .plan .target .width) * j .taken) out)
+      length-take-le (rowSize j) (fromNext j out)
       (rw length-drop (omega (arith, place-room)))
 
-  pub emit-going : Going p pixels out₀ work₀ (takeJob j (rowBytes (lanesOf (j .plan)) (j .plan .target .width)) work)
-      (take (rowBytes (lanesOf (j .plan)) (j .plan .target .width) * j .taken) out ++ (takeOut j part work ++ drop (rowBytes (lanesOf (j .plan)) (j .plan .target .width)) (drop (rowBytes (lanesOf (j .plan)) (j .plan .target .width) * j .taken) out)))
-      (takeWork j (rowBytes (lanesOf (j .plan)) (j .plan .target .width)) work)
+  pub emit-going : Going p pixels out₀ work₀ (takeJob j (rowSize j) work) (emittedOut j out work) (takeWork j (rowSize j) work)
   emit-going =
-      subst (λ (n : ℕ). Going p pixels out₀ work₀ (takeJob j n work) (take (rowBytes (lanesOf (j .plan)) (j .plan .target .width) * j .taken) out ++ (takeOut j part work ++ drop (rowBytes (lanesOf (j .plan)) (j .plan .target .width)) (drop (rowBytes (lanesOf (j .plan)) (j .plan .target .width) * j .taken) out))) (takeWork j n work)) part-exact
+      subst (λ (n : ℕ). Going p pixels out₀ work₀ (takeJob j n work) (emittedOut j out work) (takeWork j n work)) part-exact
       (take-going p pixels out₀ work₀ j out work g ready part part-exact)
 
 -- ---- the two ways out of feed
@@ -142,7 +140,9 @@ feed-keeps j pixels work r e some =
     let b : eqb (readyOf j) 0 ≡ false = ne-eqb (readyOf j) 0 (λ z. some (e ∙ z)) in
     (simp b, simp b)
 
-pub feed-offers : (j : Job) (pixels work : List ℕ) (r : ℕ) → r ≡ readyOf j → r ≡ 0 → (lent : List ℕ) → lent ≡ restOf j pixels → (k : Job) → k ≡ offerJob j (length lent) (length work) → (after : List ℕ) → after ≡ offerWork j lent work → (k ≡ fedJob j pixels (length work)) × (after ≡ fedWork j pixels work)
+pub feed-offers : (j : Job) (pixels work : List ℕ) (r : ℕ) → r ≡ readyOf j → r ≡ 0 → (lent : List ℕ) → lent ≡ restOf j pixels
+    → (k : Job) → k ≡ offerJob j (length lent) (length work) → (after : List ℕ) → after ≡ offerWork j lent work
+    → (k ≡ fedJob j pixels (length work)) × (after ≡ fedWork j pixels work)
 unfolding fedJob fedWork
 feed-offers j pixels work r e none lent l k ek after ea =
     let b : eqb (readyOf j) 0 ≡ true = eq-eqb (readyOf j) 0 (sym e ∙ none) in
@@ -153,19 +153,23 @@ pub rest-all : (n : ℕ) (s : List ℕ) → take (length s - n) (drop n s) ≡ d
 rest-all n s = take-all (length s - n) (drop n s) (rw length-drop (omega arith))
 
 -- ---- what emit hands back: k is the length of the part lent, told as an end less a start
-pub emits : (j : Job) (out work : List ℕ) (k : ℕ) → k ≡ rowBytes (lanesOf (j .plan)) (j .plan .target .width)
-    → rowBytes (lanesOf (j .plan)) (j .plan .target .width) * j .taken + rowBytes (lanesOf (j .plan)) (j .plan .target .width) ≤ length out
-    → (next : Job) → next ≡ takeJob j (length (take k (drop (rowBytes (lanesOf (j .plan)) (j .plan .target .width) * j .taken) out))) work
-    → (row : List ℕ) → row ≡ takeOut j (take k (drop (rowBytes (lanesOf (j .plan)) (j .plan .target .width) * j .taken) out)) work
-    → (after : List ℕ) → after ≡ takeWork j (length (take k (drop (rowBytes (lanesOf (j .plan)) (j .plan .target .width) * j .taken) out))) work
-    → (next ≡ takeJob j (rowBytes (lanesOf (j .plan)) (j .plan .target .width)) work)
-    × ((take (rowBytes (lanesOf (j .plan)) (j .plan .target .width) * j .taken) out ++ (row ++ drop k (drop (rowBytes (lanesOf (j .plan)) (j .plan .target .width) * j .taken) out)) ≡ take (rowBytes (lanesOf (j .plan)) (j .plan .target .width) * j .taken) out ++ (takeOut j (take (rowBytes (lanesOf (j .plan)) (j .plan .target .width)) (drop (rowBytes (lanesOf (j .plan)) (j .plan .target .width) * j .taken) out)) work ++ drop (rowBytes (lanesOf (j .plan)) (j .plan .target .width)) (drop (rowBytes (lanesOf (j .plan)) (j .plan .target .width) * j .taken) out)))
-    × (after ≡ takeWork j (rowBytes (lanesOf (j .plan)) (j .plan .target .width)) work))
+pub emits : (j : Job) (out work : List ℕ) (k : ℕ) → k ≡ rowSize j
+    → rowSize j * j .taken + rowSize j ≤ length out
+    → (next : Job) → next ≡ takeJob j (length (take k (fromNext j out))) work
+    → (row : List ℕ) → row ≡ takeOut j (take k (fromNext j out)) work
+    → (after : List ℕ) → after ≡ takeWork j (length (take k (fromNext j out))) work
+    → (next ≡ takeJob j (rowSize j) work)
+    × ((take (rowSize j * j .taken) out ++ (row ++ drop k (fromNext j out)) ≡ emittedOut j out work)
+    × (after ≡ takeWork j (rowSize j) work))
 emits j out work k e room next en row er after ea =
-    let m : ℕ = rowBytes (lanesOf (j .plan)) (j .plan .target .width) in
-    let part : List ℕ = drop (rowBytes (lanesOf (j .plan)) (j .plan .target .width) * j .taken) out in
+    let m : ℕ = rowSize j in
+    let part : List ℕ = fromNext j out in
     let len : length (take k part) ≡ m = length-take-le k part (rw length-drop (omega arith)) ∙ e in
-    (en ∙ ap (λ (n : ℕ). takeJob j n work) len, (ap₂ (λ (r s : List ℕ). take (m * j .taken) out ++ (r ++ s)) (er ∙ ap (λ (n : ℕ). takeOut j (take n part) work) e) (ap (λ (n : ℕ). drop n part) e), ea ∙ ap (λ (n : ℕ). takeWork j n work) len))
+    let row-is : row ≡ takeOut j (take m part) work = er ∙ ap (λ (n : ℕ). takeOut j (take n part) work) e in
+    let rest-is : drop k part ≡ drop m part = ap (λ (n : ℕ). drop n part) e in (
+      en ∙ ap (λ (n : ℕ). takeJob j n work) len,
+      (ap₂ (λ (r s : List ℕ). take (m * j .taken) out ++ (r ++ s)) row-is rest-is, ea ∙ ap (λ (n : ℕ). takeWork j n work) len),
+    )
 
 pub end-less-start : (a n : ℕ) → a + n - a ≡ n
 end-less-start a n = omega arith
@@ -181,19 +185,19 @@ module _ (p : Plan) (pixels out₀ work₀ : List ℕ) (j : Job) (out work : Lis
   turn-below : fed .taken < fed .plan .target .height
   turn-below = rw is (let (a, b) = fed-same p pixels out₀ work₀ j out work g more in rw (a, b) more)
 
-  pub turn-room : rowBytes (lanesOf (fed .plan)) (fed .plan .target .width) * fed .taken + rowBytes (lanesOf (fed .plan)) (fed .plan .target .width) ≤ length out
+  pub turn-room : rowSize fed * fed .taken + rowSize fed ≤ length out
   turn-room = place-room p pixels out₀ work₀ fed out between turn-fed turn-ready turn-below
 
-  module _ (next : Job) (next-is : next ≡ takeJob fed (rowBytes (lanesOf (fed .plan)) (fed .plan .target .width)) between) where
-    pub turn-going : (out' work' : List ℕ) → out' ≡ take (rowBytes (lanesOf (fed .plan)) (fed .plan .target .width) * fed .taken) out ++ (takeOut fed (take (rowBytes (lanesOf (fed .plan)) (fed .plan .target .width)) (drop (rowBytes (lanesOf (fed .plan)) (fed .plan .target .width) * fed .taken) out)) between ++ drop (rowBytes (lanesOf (fed .plan)) (fed .plan .target .width)) (drop (rowBytes (lanesOf (fed .plan)) (fed .plan .target .width) * fed .taken) out))
-        → work' ≡ takeWork fed (rowBytes (lanesOf (fed .plan)) (fed .plan .target .width)) between → Going p pixels out₀ work₀ next out' work'
+  module _ (next : Job) (next-is : next ≡ takeJob fed (rowSize fed) between) where
+    pub turn-going : (out' work' : List ℕ) → out' ≡ emittedOut fed out between
+        → work' ≡ takeWork fed (rowSize fed) between → Going p pixels out₀ work₀ next out' work'
     turn-going out' work' e f = rw (next-is, e, f) (emit-going p pixels out₀ work₀ fed out between turn-fed turn-ready turn-below)
 
     pub turn-less : next .plan .target .height - next .taken < j .plan .target .height - j .taken
     turn-less =
         let (a, b) = fed-same p pixels out₀ work₀ j out work g more in
         let exact = part-exact p pixels out₀ work₀ fed out between turn-fed turn-ready turn-below in
-        let lent : List ℕ = take (rowBytes (lanesOf (fed .plan)) (fed .plan .target .width)) (drop (rowBytes (lanesOf (fed .plan)) (fed .plan .target .width) * fed .taken) out) in
+        let lent : List ℕ = take (rowSize fed) (fromNext fed out) in
         let t = take-went fed lent between (take-accepted p pixels out₀ work₀ fed out between turn-fed turn-ready lent exact) .next in
         let n : next ≡ moreTaken fed (rowTaken fed between) = next-is ∙ ap (λ (k : ℕ). takeJob fed k between) (sym exact) ∙ t in
         let h : next .plan .target .height ≡ j .plan .target .height = ap (λ (k : Job). k .plan .target .height) n ∙ ap (λ (k : Job). k .plan .target .height) is ∙ ap (λ (q : Plan). q .target .height) a in

@@ -27,12 +27,17 @@ fedJob j pixels w = cond (eqb (readyOf j) 0) (offerJob j (length (restOf j pixel
 unfoldable pub fedWork : Job → List ℕ → List ℕ → List ℕ
 fedWork j pixels work = cond (eqb (readyOf j) 0) (offerWork j (restOf j pixels) work) work
 
+-- the bytes of an output row, and the output from the place of the next row on
+abbrev pub rowSize : Job → ℕ
+rowSize j = rowBytes (lanesOf (j .plan)) (j .plan .target .width)
+
+abbrev pub fromNext : Job → List ℕ → List ℕ
+fromNext j out = drop (rowSize j * j .taken) out
+
 -- the next row taken into its place of the output
 abbrev pub emittedOut : Job → List ℕ → List ℕ → List ℕ
 emittedOut j out work =
-    let size : ℕ = rowBytes (lanesOf (j .plan)) (j .plan .target .width) in
-    let from : List ℕ = drop (size * j .taken) out in
-    take (size * j .taken) out ++ (takeOut j (take size from) work ++ drop size from)
+    take (rowSize j * j .taken) out ++ (takeOut j (take (rowSize j) (fromNext j out)) work ++ drop (rowSize j) (fromNext j out))
 
 -- a fresh job and buffers of the right length, the work rows as start leaves them
 pub record Asked (j : Job) (pixels out work : List ℕ) : Type 0 where

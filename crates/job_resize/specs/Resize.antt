@@ -1,4 +1,4 @@
--- `resize` (document 01, "The job"): "a job with the full crop; its work values end as that job's last take leaves them". Its pixels and its flag are
+-- `resize` (SCOPE, "The job"): "a job with the full crop; its work values end as that job's last take leaves them". Its pixels and its flag are
 -- claim's `resized` and `resizedFlag`; here are its numbers and its work values. Assumes nothing.
 use Prim.Native.Nat.{ℕ, zero, suc, _+_, _-_, _*_, _/_, _%_, _^_}
 use mathlib.Core.Bool.{Bool, cond, not}

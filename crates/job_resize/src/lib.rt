@@ -1,4 +1,4 @@
-// Whole pictures scaled: resize, a job with the full crop (document 01, "The job"; the Rust: Image::resize and rescale_plane).
+// Whole pictures scaled: resize, a job with the full crop (SCOPE, "The job"; the Rust: Image::resize and rescale_plane).
 use job::Job;
 use job::Offered;
 use job::Started;
@@ -112,7 +112,8 @@ fn check_resize(
 }
 
 // A picture scaled to the target's size; returns its alpha flag. The Rust: Image::resize.
-// Rules out: the flag turned round; 3 told for the output's length; the first row again and again; a picture that stops a row early.
+// Rules out: equal sizes copied; every output of the exact length refused; the flag turned round; 3 told for the output's length; rows written at the place of the rows
+// accepted; a picture that stops a row early.
 pub fn resize(
     source: Dimensions,
     layout: PixelLayout,

@@ -10,7 +10,7 @@ use Rattle.pixels.specs.Refusals.{number}
 use Rattle.pixels.specs.Sizes.{sizesNumber, Fits}
 use Rattle.pixels.proofs.Fitting.{fits-of, fits-good}
 use Rattle.pixels.proofs.Truths.{both-true, not-true, not-false}
-use Rattle.pixels.proofs.Numbers.{number-pos}
+use Rattle.pixels.proofs.Numbers.{not-zero}
 use Rattle.rows_schedule.specs.Schedule.{countsFit}
 use Rattle.rows_schedule.proofs.Counts.{counts-of, counts-good}
 use Rattle.job_rules.specs.declared.Plan.{Plan}
@@ -55,7 +55,7 @@ rules-good p k t f r =
 module _ (p : Plan) (k t : ℕ) (f : Bool) where
   pub rule-sizes : (why : Refusal) → sizesNumber (p .source) (p .crop) (p .target) ≡ number why → false ≡ lawfulOf p k t f
   unfolding lawfulOf
-  rule-sizes why e = simp (ne-eqb (sizesNumber (p .source) (p .crop) (p .target)) 0 (λ z. omega (arith, number-pos why)))
+  rule-sizes why e = simp (not-zero why (sizesNumber (p .source) (p .crop) (p .target)) e)
 
   module _ (fit : sizesNumber (p .source) (p .crop) (p .target) ≡ 0) (b : Bool) (is : b ≡ counts p k t) where
     pub rule-counts : not b ≡ true → false ≡ lawfulOf p k t f

@@ -1,4 +1,4 @@
--- The plan of a job, the record rules and the tests of its calls (document 01, "The job" and "Why a call is turned away"). The record comes as its parts: the plan p,
+-- The plan of a job, the record rules and the tests of its calls (SCOPE, "The job" and "Why a call is turned away"). The record comes as its parts: the plan p,
 -- the rows accepted k, the rows taken t and the flag f. Assumes nothing.
 use Prim.Native.Nat.{ℕ, _-_, _%_, _≤_}
 use mathlib.Core.Path.{_≡_}

@@ -1,4 +1,4 @@
-// What the calls of a job are held to (document 01, "The job" and "Why a call is turned away"): the plan, the record rules and the tests of each call. The record comes
+// What the calls of a job are held to (SCOPE, "The job" and "Why a call is turned away"): the plan, the record rules and the tests of each call. The record comes
 // as its parts, since it stands above, with its calls.
 use pixels::Checked;
 use pixels::Dimensions;
@@ -79,7 +79,7 @@ pub fn check_rules(p: Plan, accepted: u32, taken: u32, flag: bool) -> bool
 
 // ---- the tests of each call, in their order
 
-// Those of a start. Rules out: work values for one half alone; 5 told before 1 or 2.
+// Those of a start. Rules out: every start refused; work values for one half alone; 5 told where 1 or 2 is owed.
 pub fn check_start(p: Plan, work: usize) -> Checked
     ensures { λ r. ⌜ checkedNumber r ≡ startNumber p work ⌝ }
 {
@@ -96,7 +96,8 @@ pub fn check_start(p: Plan, work: usize) -> Checked
     Checked::Fit
 }
 
-// Those of an offer, of the bytes lent and the work values. Rules out: every offer of rows refused; 8 told once as many rows as the crop has are accepted.
+// Those of an offer, of the bytes lent and the work values. Rules out: every offer of rows refused; 7 and 8 exchanged; 8 told once as many rows as the crop has are
+// accepted.
 pub fn check_offer(
     p: Plan,
     accepted: u32,
@@ -128,7 +129,8 @@ pub fn check_offer(
     Checked::Fit
 }
 
-// Those of a take, of the bytes of output and the work values. Rules out: 5 told for an output of another length; 9 told by what the rows taken would make.
+// Those of a take, of the bytes of output and the work values. Rules out: every take into a row of the exact length refused; 5 told for an output of another length;
+// 9 told by what the rows taken would make.
 pub fn check_take(
     p: Plan,
     accepted: u32,

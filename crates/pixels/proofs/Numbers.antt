@@ -1,5 +1,5 @@
 -- Laws of the numbers of "Why a call is turned away": a number names its cause, none is 0, and an answer is told by its number. Assumes nothing.
-use Prim.Native.Nat.{ℕ, zero, suc, _<_}
+use Prim.Native.Nat.{ℕ, _<_}
 use mathlib.Core.Path.{_≡_, refl, sym, ap, _∙_}
 use mathlib.Core.Bool.{Bool, false}
 use mathlib.Core.List.{List, [], _∷_}
@@ -45,7 +45,7 @@ number-pos RowReady = lit< tt
 number-pos AllAccepted = lit< tt
 number-pos NoneReady = lit< tt
 
--- an answer is known by its number
+-- an end in itself: an answer is known by its number, so a contract that tells the number tells the answer
 pub checked-is : (a b : Checked) → checkedNumber a ≡ checkedNumber b → a ≡ b
 checked-is Fit Fit e = refl
 checked-is Fit (Refused why) e = absurd (omega (arith, number-pos why))

@@ -1,4 +1,4 @@
--- Why a call is turned away: document 01's table, the number of each cause, and the number and the values of each answer. Assumes nothing.
+-- Why a call is turned away: SCOPE's table, the number of each cause, and the number and the values of each answer. Assumes nothing.
 use Prim.Native.Nat.{ℕ}
 use mathlib.Core.Bool.{Bool, false, cond, not}
 use mathlib.Core.List.{List, [], _∷_}

@@ -1,4 +1,5 @@
--- Sizes and lengths, and the numbers 1 and 2 of document 01's table ("Why a call is turned away"). Assumes nothing.
+-- Sizes and lengths, and the numbers 1 and 2 of SCOPE's table ("Why a call is turned away"; "A row comes in" for the work rows, "Beside the job" for `scaled`).
+-- Assumes nothing.
 use Prim.Native.Nat.{ℕ, _+_, _*_, _≤_}
 use mathlib.Core.Bool.{Bool, cond, _||_}
 use mathlib.Core.List.{List, [], _∷_}

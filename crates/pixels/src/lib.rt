@@ -1,4 +1,4 @@
-// Pixels: sizes and why a call is turned away (document 01, "Beside the job", "Why a call is turned away"; the Rust: Dimensions and Rect of image.rs and
+// Pixels: sizes and why a call is turned away (SCOPE, "Beside the job", "Why a call is turned away"; the Rust: Dimensions and Rect of image.rs and
 // geometry.rs). Every function answers for all arguments. Fields are public: a value counts, whoever filled it, and is tested where it is used.
 pub use sizes::bad_side;
 pub use sizes::bad_size;
@@ -25,7 +25,7 @@ pub struct Rect {
     pub height: u32,
 }
 
-// Why a call is turned away, in the order of document 01's table; specs/Refusals.antt has the numbers.
+// Why a call is turned away, in the order of SCOPE's table; specs/Refusals.antt has the numbers.
 pub enum Refusal {
     // a source or target side is 0 or above MAX_DIMENSION, or the crop is empty
     InvalidDimensions,

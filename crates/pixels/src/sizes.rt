@@ -1,4 +1,4 @@
-// Sizes (document 01, "Beside the job" and numbers 1 and 2 of "Why a call is turned away"; the Rust: Dimensions and Rect).
+// Sizes (SCOPE, "Beside the job" and numbers 1 and 2 of "Why a call is turned away"; the Rust: Dimensions and Rect).
 use crate::Dimensions;
 use crate::MAX_DIMENSION;
 use crate::Rect;
@@ -41,7 +41,7 @@ fn derived(own: u32, across: u32, side: u32, other: u64) -> u64
 }
 
 impl Dimensions {
-    // The Rust's Dimensions::new. Rules out: a side of 16,384 refused; the sides exchanged.
+    // The Rust's Dimensions::new. Rules out: only the width tested; the sides exchanged.
     pub fn new(width: u32, height: u32) -> Sized
         ensures number { λ r. ⌜ sizedNumber r ≡ sizeNumber (sizeOf width height) ⌝ }
         ensures size { λ r. ⌜ sizedSize r ≡ sizeIf (sizeNumber (sizeOf width height)) (sizeOf width height) ⌝ }
@@ -61,7 +61,7 @@ impl Dimensions {
     }
 
     // The Rust's scaled, libwebp's WebPRescalerGetScaledDimensions: an axis of 0 is derived from the other.
-    // Rules out: a derived side rounded down; the ratio upside down; a side above the limit cut off to it.
+    // Rules out: a derived side rounded down; the ratio upside down.
     pub fn scaled(self, width: u32, height: u32) -> Sized
         ensures number { λ r. ⌜ sizedNumber r ≡ scaledNumber self width height ⌝ }
         ensures size { λ r. ⌜ sizedSize r ≡ sizeIf (scaledNumber self width height) (scaledSize self width height) ⌝ }
@@ -85,7 +85,7 @@ impl Dimensions {
 }
 
 impl Rect {
-    // The Rust's Rect::new: the crop is tested where it is used. Rules out: the corner exchanged; a crop cut off to some limit.
+    // The Rust's Rect::new: the crop is tested where it is used. Rules out: x at both places of the corner; a crop as high as it is wide.
     pub fn new(x: u32, y: u32, width: u32, height: u32) -> Rect
         ensures { λ r. ⌜ r ≡ rectOf x y width height ⌝ }
     {

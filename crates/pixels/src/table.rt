@@ -1,4 +1,4 @@
-// The numbers of document 01's table ("Why a call is turned away").
+// The numbers of SCOPE's table ("Why a call is turned away").
 use crate::Refusal;
 ghost use mathlib.Core.Path.{_≡_};
 ghost use Rattle.pixels.specs.Refusals.{number};

@@ -1,7 +1,7 @@
 -- An alpha plane written: the bytes at the alpha places are the plane's, all others stay, and the flag is the plane's. Assumes nothing.
 use Prim.Native.Nat.{ℕ, _+_, _*_, _/_, _%_, _≤_, _<_}
 use mathlib.Core.Path.{_≡_, refl, sym, ap, _∙_}
-use mathlib.Core.Bool.{Bool, true, false, cond}
+use mathlib.Core.Bool.{true, false, cond}
 use mathlib.Core.List.{List}
 use mathlib.Core.Logic.{_⊎_, inl, inr, ⊎-elim}
 use native.Mathlib.Omega.{arith}
@@ -13,14 +13,11 @@ use Rattle.arithmetic.specs.Table.{tabulate}
 use Rattle.arithmetic.proofs.Tables.{tabulate-is, getD-tabulate, length-tabulate}
 use Rattle.pixels_layout.specs.declared.PixelLayout.{PixelLayout}
 use Rattle.pixels.specs.Sizes.{pixelLanes}
+use Rattle.pixels.proofs.Truths.{test}
 use Rattle.pixels_layout.specs.Layout.{placeOf, alphaLane, alphaAt}
 use Rattle.pixels_alpha.specs.Alpha.{someClear, hasAlpha, alphaByte, withAlpha}
 use Rattle.pixels_layout.proofs.Tabled.{place-lt}
 use Rattle.pixels_alpha.proofs.Flags.{clear-cong}
-
-either : (b : Bool) → (b ≡ true) ⊎ (b ≡ false)
-either true = inl refl
-either false = inr refl
 
 -- byte x once the first n pixels have their alpha
 abbrev pub partly : ℕ → List ℕ → List ℕ → ℕ → ℕ → ℕ
@@ -52,8 +49,8 @@ module _ (a : ℕ) (small : a < pixelLanes) (pixels plane : List ℕ) where
   partly-other n x other =
       ⊎-elim
       (λ t. let h = ltb-true (x / pixelLanes) n t in partly-before n x h ∙ sym (partly-before (n + 1) x (omega arith)))
-      (λ t. let h = ltb-false (x / pixelLanes) n t in partly-after n x h ∙ sym (later h (either (ltb (x / pixelLanes) (n + 1)))))
-      (either (ltb (x / pixelLanes) n))
+      (λ t. let h = ltb-false (x / pixelLanes) n t in partly-after n x h ∙ sym (later h (test (ltb (x / pixelLanes) (n + 1)))))
+      (test (ltb (x / pixelLanes) n))
     where
       later : n ≤ x / pixelLanes → (ltb (x / pixelLanes) (n + 1) ≡ true) ⊎ (ltb (x / pixelLanes) (n + 1) ≡ false) → partly a pixels plane (n + 1) x ≡ getD pixels x 0
       later h (inl t) =
@@ -63,7 +60,7 @@ module _ (a : ℕ) (small : a < pixelLanes) (pixels plane : List ℕ) where
 
   -- a turn of the loop that writes
   pub partly-turn : (px : List ℕ) (n : ℕ) → pixelLanes * n + a < length px → ((x : ℕ) → getD px x 0 ≡ partly a pixels plane n x) → (x : ℕ) → getD (set px (pixelLanes * n + a) (getD plane n 0)) x 0 ≡ partly a pixels plane (n + 1) x
-  partly-turn px n room h x = turn (either (eqb x (pixelLanes * n + a)))
+  partly-turn px n room h x = turn (test (eqb x (pixelLanes * n + a)))
     where
       turn : (eqb x (pixelLanes * n + a) ≡ true) ⊎ (eqb x (pixelLanes * n + a) ≡ false) → getD (set px (pixelLanes * n + a) (getD plane n 0)) x 0 ≡ partly a pixels plane (n + 1) x
       turn (inl t) =
@@ -80,7 +77,7 @@ module _ (a : ℕ) (small : a < pixelLanes) (pixels plane : List ℕ) where
       tabulate-is (alphaByte a pixels plane) px (λ x l. h x ∙ partly-before (length plane) x (omega arith))
       ∙ ap (tabulate (alphaByte a pixels plane)) long
 
--- the new flag is the plane's
+-- an end in itself: the new flag is the plane's, whatever the pixels were
 pub plane-flag : (l : PixelLayout) (pixels plane : List ℕ) → length pixels ≡ pixelLanes * length plane → hasAlpha l (withAlpha l pixels plane) (length plane) ≡ someClear (λ i. getD plane i 0) (length plane)
 unfolding hasAlpha withAlpha
 plane-flag l pixels plane whole =

@@ -1,4 +1,4 @@
--- The alpha of a whole picture (document 01, "Lanes" and "Beside the job"): its flag, its length, and apply_alpha_plane. Assumes nothing.
+-- The alpha of a whole picture (SCOPE, "Lanes" and "Beside the job"): its flag, its length, and apply_alpha_plane. Assumes nothing.
 use Prim.Native.Nat.{ℕ, zero, suc, _*_, _/_, _%_}
 use mathlib.Core.Bool.{Bool, false, cond, not, _||_}
 use mathlib.Core.List.{List, [], _∷_, _++_}

@@ -1,4 +1,4 @@
-// The alpha of whole pictures (document 01, "Lanes" and "Beside the job"; the Rust: Image::new's flag and Image::apply_alpha_plane).
+// The alpha of whole pictures (SCOPE, "Lanes" and "Beside the job"; the Rust: Image::new's flag and Image::apply_alpha_plane).
 use pixels::Checked;
 use pixels::Dimensions;
 use pixels::Flagged;
@@ -14,7 +14,7 @@ ghost use Rattle.pixels.specs.Refusals.{checkedNumber, flaggedNumber, flaggedFl
 ghost use Rattle.pixels.specs.Sizes.{pixelLanes};
 ghost use Rattle.pixels_alpha.specs.Alpha.{hasAlpha, pictureNumber, pictureFlag, withAlpha, alphaNumber, alphaPixels, alphaFlag};
 
-// The alpha flag of packed pixels; bytes after the last whole pixel are ignored. Rules out: a flag that looks at a colour; one that stops a pixel short.
+// The alpha flag of packed pixels; bytes after the last whole pixel are ignored. Rules out: a flag that looks at a colour; one that looks at half the pixels.
 pub fn has_alpha(layout: PixelLayout, bytes: &[u8]) -> bool
     ensures { λ r. ⌜ r ≡ hasAlpha layout (now (bytes .entry)) (length (now (bytes .entry)) / pixelLanes) ⌝ }
 {
@@ -31,7 +31,7 @@ pub fn has_alpha(layout: PixelLayout, bytes: &[u8]) -> bool
     false
 }
 
-// Numbers 1 and 3, in that order, of a picture of the size in n bytes. Rules out: 3 told before 1; three bytes to a pixel.
+// Numbers 1 and 3, in that order, of a picture of the size in n bytes. Rules out: 3 told before 1; a bad size told 3.
 pub fn check_picture(size: Dimensions, n: usize) -> Checked
     ensures { λ r. ⌜ checkedNumber r ≡ pictureNumber size n ⌝ }
 {
@@ -61,7 +61,7 @@ fn check_alpha(size: Dimensions, n: usize, m: usize) -> Checked
     Checked::Fit
 }
 
-// The flag of a picture, as the Rust's Image::new derives it. Rules out: 3 told before 1; the flag turned round.
+// The flag of a picture, as the Rust's Image::new derives it. Rules out: the flag of one layout for all; the flag turned round.
 pub fn picture_has_alpha(size: Dimensions, layout: PixelLayout, pixels: &[u8]) -> Flagged
     ensures number { λ r. ⌜ flaggedNumber r ≡ pictureNumber size (length (now (pixels .entry))) ⌝ }
     ensures flag { λ r. ⌜ flaggedFlag r ≡ pictureFlag size layout (now (pixels .entry)) ⌝ }
@@ -92,7 +92,7 @@ fn put_alpha(layout: PixelLayout, pixels: &mut [u8], plane: &[u8])
 }
 
 // The Rust's apply_alpha_plane: writes only alpha bytes, and returns the flag of the picture so made.
-// Rules out: a colour written; the flag of the pixels before; 3 told before 1.
+// Rules out: a colour written; the plane's first byte written everywhere.
 pub fn apply_alpha_plane(
     size: Dimensions,
     layout: PixelLayout,

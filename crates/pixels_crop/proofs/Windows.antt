@@ -74,7 +74,9 @@ module _ (source : Dimensions) (crop : Rect) (pixels : List ℕ) (fits : Fits so
   rows-none out = rw mul-zero
 
   -- a turn of the loop that copies
-  pub rows-turn : (out out₀ : List ℕ) (i : ℕ) → i < crop .height → out ≡ rows i ++ drop (rowBytes pixelLanes (crop .width) * i) out₀ → take (rowBytes pixelLanes (crop .width) * i) out ++ (stripe i ++ drop (rowBytes pixelLanes (crop .width) * i + length (stripe i)) out) ≡ rows (i + 1) ++ drop (rowBytes pixelLanes (crop .width) * (i + 1)) out₀
+  pub rows-turn : (out out₀ : List ℕ) (i : ℕ) → i < crop .height → out ≡ rows i ++ drop (rowBytes pixelLanes (crop .width) * i) out₀
+      → take (rowBytes pixelLanes (crop .width) * i) out ++ (stripe i ++ drop (rowBytes pixelLanes (crop .width) * i + length (stripe i)) out)
+      ≡ rows (i + 1) ++ drop (rowBytes pixelLanes (crop .width) * (i + 1)) out₀
   unfolding croppedRows
   rows-turn out out₀ i h e =
       let n : rowBytes pixelLanes (crop .width) * i + length (stripe i) ≡ rowBytes pixelLanes (crop .width) * (i + 1) = omega (arith, stripe-length i h) in

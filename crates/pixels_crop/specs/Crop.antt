@@ -1,4 +1,4 @@
--- The crop (document 01, "Lanes" and "Beside the job"): the window of a row, the rows of a crop, and the numbers of `crop`. Assumes nothing.
+-- The crop (SCOPE, "Lanes" and "Beside the job"): the window of a row, the rows of a crop, and the numbers of `crop`. Assumes nothing.
 use Prim.Native.Nat.{ℕ, zero, suc, _+_, _*_}
 use mathlib.Core.Bool.{Bool, cond}
 use mathlib.Core.List.{List, [], _∷_, _++_}

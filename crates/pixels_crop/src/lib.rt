@@ -1,4 +1,4 @@
-// The crop (document 01, "Lanes" and "Beside the job"; the Rust: crop of geometry.rs): the window of a row, and whole pictures.
+// The crop (SCOPE, "Lanes" and "Beside the job"; the Rust: crop of geometry.rs): the window of a row, and whole pictures.
 use pixels::Checked;
 use pixels::Dimensions;
 use pixels::Flagged;
@@ -18,7 +18,7 @@ ghost use Rattle.pixels.specs.Sizes.{pixelLanes, pictureBytes, Fits};
 ghost use Rattle.pixels_crop.specs.Crop.{windowOf, cropped, cropNumber, cropFlag, cropOut};
 
 // The crop window of a row: width pixels from pixel x on, a part of that same row; the empty part where they do not lie in it.
-// Rules out: a window one to the left; one cut off at the row's end.
+// Rules out: a window too far to the left; one that ends with its row lost.
 pub fn window(row: &[u8], x: u32, width: u32) -> &[u8]
     ensures { λ r. ⌜ now r ≡ windowOf pixelLanes (now (row .entry)) x width ⌝ }
 {
@@ -85,7 +85,7 @@ fn check_crop(source: Dimensions, rect: Rect, n: usize, m: usize) -> Checked
     Checked::Fit
 }
 
-// The Rust's crop. Rules out: rows of the crop from the source's left edge; 3 told for the output's length; the flag turned round.
+// The Rust's crop. Rules out: rows of the crop from the source's left edge; 3 told for the output's length, 4 before 3; every crop refused; the flag turned round.
 pub fn crop(
     source: Dimensions,
     layout: PixelLayout,

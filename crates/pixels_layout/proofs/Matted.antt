@@ -1,30 +1,22 @@
--- What the scaler reads of a row of bytes: each lane of the matted pixel is a colour scaled by its alpha or the alpha itself, never above 255 nor above
--- the alpha. What is packed again: the lanes of the restored pixel. Assumes nothing.
+-- What the scaler reads of a row of bytes: each lane of the matted pixel is a colour scaled by its alpha or the alpha itself, never above 255. What is packed
+-- again: the lanes of the restored pixel. Assumes nothing.
 use Prim.Native.Nat.{ℕ, _+_, _*_, _/_, _%_, _≤_, _<_}
 use mathlib.Core.Path.{_≡_, ap, ap₂, _∙_}
 use mathlib.Core.Bool.{true}
 use mathlib.Core.List.{List}
-use mathlib.Core.Logic.{⊎-elim}
 use native.Mathlib.Omega.{arith}
-use native.Mathlib.Nat.{le-of-suc-le-suc, eq-or-lt-of-le, le-refl}
 use lib.ListN.{getD}
 use Rattle.arithmetic.specs.Matte.{laneOf, scaleColour, matteFactor, multArgb}
-use Rattle.arithmetic.proofs.Mattes.{lane-byte, matte-colour, matte-alpha, matte-within, pixel-cong}
+use Rattle.arithmetic.proofs.Mattes.{lane-byte, matte-colour, matte-alpha, pixel-cong}
 use Rattle.pixels_layout.specs.declared.PixelLayout.{PixelLayout}
 use Rattle.pixels.specs.Sizes.{pixelLanes, rowBytes, halfValues}
 use Rattle.pixels_layout.specs.Layout.{placeOf, alphaLane, laneAt, alphaAt, pixelAt, packedByte}
 use Rattle.pixels_layout.specs.Lanes.{matted, restoredPixel, restoredPlace}
-use Rattle.pixels_layout.proofs.Packing.{pixelAt-lane, packed-byte}
+use Rattle.pixels_layout.proofs.Packing.{pixelAt-lane}
 
 pub matted-byte : (l : PixelLayout) (s : List ℕ) (k i : ℕ) → matted l s k i ≤ 255
 unfolding matted
 matted-byte l s k i = lane-byte _ k
-
--- no colour is above its alpha
-pub matted-under : (l : PixelLayout) (s : List ℕ) (k i : ℕ) → k < pixelLanes → matted l s k i ≤ matted l s alphaLane i
-unfolding matted
-matted-under l s k i h =
-    ⊎-elim (λ e. rw e (le-refl _)) (λ lt. matte-within (pixelAt l s i) k lt) (eq-or-lt-of-le (le-of-suc-le-suc h))
 
 module _ (l : PixelLayout) (s : List ℕ) (bytes : (x : ℕ) → getD s x 0 ≤ 255) (i : ℕ) where
   -- a colour is scaled by the factor of the alpha beside it
@@ -38,11 +30,6 @@ module _ (l : PixelLayout) (s : List ℕ) (bytes : (x : ℕ) → getD s x 0 ≤ 
   pub matted-alpha : matted l s alphaLane i ≡ alphaAt l s i
   unfolding matted
   matted-alpha = matte-alpha (pixelAt l s i) ∙ pixelAt-lane l s i alphaLane bytes (omega arith)
-
--- the byte at place j of pixel i of a restored row
-pub restored-byte : (l : PixelLayout) (v : ℕ → ℕ) (i j : ℕ) → j < pixelLanes → restoredPlace l v (pixelLanes * i + j) ≡ laneOf (restoredPixel v i) (placeOf l j)
-unfolding restoredPlace
-restored-byte l v i j h = packed-byte l (restoredPixel v) i j h
 
 -- Restoring and packing look at the lanes of the same pixel alone: lanes that agree on a row are packed to the same row.
 pub restored-cong : (l : PixelLayout) (v w : ℕ → ℕ) (m z : ℕ) → z < rowBytes pixelLanes m → ((x : ℕ) → x < halfValues pixelLanes m → v x ≡ w x) → restoredPlace l v z ≡ restoredPlace l w z

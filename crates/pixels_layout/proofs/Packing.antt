@@ -16,6 +16,7 @@ use Rattle.pixels.specs.declared.Refusal.the-variants.{OutputLength}
 use Rattle.pixels.specs.Refusals.{number, otherLength}
 use Rattle.pixels.specs.Sizes.{pixelLanes}
 use Rattle.pixels_layout.specs.Layout.{placeOf, laneAt, pixelAt, unpacked, packed, unpackedPixels, packedByte, packedPixels, packNumber, unpackNumber}
+use Rattle.pixels_layout.specs.RoundTrips.{RoundTrips}
 use Rattle.pixels.proofs.Truths.{differ, same}
 use Rattle.pixels.proofs.Causes.{first-at, first-none}
 use Rattle.arithmetic.proofs.Stretches.{stretch, tabulate-add}
@@ -162,3 +163,7 @@ pack-unpack l px long w =
     at x h =
         pixelAt-lane l px 0 (placeOf l x) w (place-lt l x h)
         ∙ ap (λ (t : ℕ). getD px t 0) (at-first (placeOf l (placeOf l x)) ∙ place-twice l x h)
+
+-- ---- all four, in every layout: what specs/RoundTrips.antt states, an end in itself
+pub round-trips : (l : PixelLayout) → RoundTrips l
+round-trips l = record { pixel = unpack-pack l; four = pack-unpack l; pixels = unpack-pack-pixels l; bytes = pack-unpack-pixels l }

@@ -1,4 +1,4 @@
--- What the scaler reads of a row of packed pixels, and what is packed of the bytes that it makes (document 01, "Lanes" and "The job").
+-- What the scaler reads of a row of packed pixels, and what is packed of the bytes that it makes (SCOPE, "Lanes", "A row goes out" and "The list of demand 3").
 -- Lanes count 0 blue, 1 green, 2 red, 3 alpha. Assumes nothing.
 use Prim.Native.Nat.{ℕ, _+_, _*_}
 use mathlib.Core.Bool.{true, false}

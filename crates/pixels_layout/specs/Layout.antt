@@ -1,4 +1,4 @@
--- The layouts (document 01, "Lanes"): where each lane of a pixel AARRGGBB stands among its bytes. Lanes count from the lowest byte of the number:
+-- The layouts (SCOPE, "Lanes"; "Why a call is turned away" for the length of packing): where each lane of a pixel AARRGGBB stands among its bytes. Lanes count from the lowest byte of the number:
 -- 0 is blue, 1 green, 2 red, 3 alpha. Assumes nothing.
 use Prim.Native.Nat.{ℕ, _+_, _*_, _/_, _%_}
 use mathlib.Core.List.{List, [], _∷_}

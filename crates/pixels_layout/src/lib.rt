@@ -1,4 +1,4 @@
-// Layouts (document 01, "Lanes"; the Rust: PixelLayout).
+// Layouts (SCOPE, "Lanes"; the Rust: PixelLayout).
 ghost use mathlib.Core.Path.{_≡_};
 ghost use Prim.Native.Nat.{_+_, _*_, _^_, _<_};
 ghost use Rattle.arithmetic.specs.Matte.{laneOf};
@@ -64,7 +64,7 @@ fn word(b: u8, g: u8, r: u8, a: u8) -> u32
 }
 
 impl PixelLayout {
-    // Where the lanes B, G, R, A stand: for a caller that reads a whole row. Rules out: two lanes exchanged; the places of another layout.
+    // Where the lanes B, G, R, A stand: for a caller that reads a whole row. Rules out: two lanes exchanged; the place of blue for alpha.
     pub fn places(self) -> Places
         ensures { λ r. ⌜ r ≡ placesOf self ⌝ }
     {
@@ -76,7 +76,7 @@ impl PixelLayout {
         }
     }
 
-    // The Rust's pack. Rules out: two lanes exchanged; the bytes of another layout.
+    // The Rust's pack. Rules out: two lanes exchanged; a lane without its high bit.
     pub fn pack(self, argb: u32) -> [u8; 4]
         ensures { λ r. ⌜ r ≡ packed self argb ⌝ }
     {
@@ -88,7 +88,7 @@ impl PixelLayout {
         ]
     }
 
-    // The Rust's unpack. Rules out: two lanes exchanged; the bytes of another layout.
+    // The Rust's unpack. Rules out: two lanes exchanged; green at the weight of red.
     pub fn unpack(self, px: [u8; 4]) -> u32
         ensures { λ r. ⌜ r ≡ unpacked self px ⌝ }
     {
@@ -99,7 +99,7 @@ impl PixelLayout {
         word(px[b], px[g], px[r], px[a])
     }
 
-    // The Rust's alpha_byte_offset, written out; it agrees with the table. Rules out: alpha last in every layout; the place of blue.
+    // The Rust's alpha_byte_offset, written out; it agrees with the table. Rules out: alpha last in every layout; alpha first in Bgra8.
     pub fn alpha_byte_offset(self) -> usize
         ensures { λ r. ⌜ r ≡ placeOf self alphaLane ⌝ }
     {

@@ -1,4 +1,4 @@
-// Packing and unpacking slices of pixels (document 01, "Lanes"; the Rust: pack_pixels, unpack_pixels, argb_has_alpha).
+// Packing and unpacking slices of pixels (SCOPE, "Lanes"; the Rust: pack_pixels, unpack_pixels, argb_has_alpha).
 use pixels::Checked;
 use pixels::PIXEL_LANES;
 use pixels::Refusal;
@@ -34,7 +34,7 @@ fn pack_into(layout: PixelLayout, argb: &[u32], out: &mut [u8])
     }
 }
 
-// The Rust's pack_pixels. Rules out: a longer buffer taken; a buffer written although it was refused; pixels in reverse.
+// The Rust's pack_pixels. Rules out: a longer buffer taken; a pixel packed twice.
 pub fn pack_pixels(layout: PixelLayout, argb: &[u32], out: &mut [u8]) -> Checked
     ensures number { λ r. ⌜ checkedNumber r ≡ packNumber (length (now (argb .entry))) (length (now (out .entry))) ⌝ }
     ensures out { λ _. ⌜ now (out .exit) ≡ packOut layout (now (argb .entry)) (now (out .entry)) ⌝ }
@@ -61,7 +61,7 @@ fn unpack_into(layout: PixelLayout, bytes: &[u8], out: &mut [u32])
     }
 }
 
-// The Rust's unpack_pixels. Rules out: trailing bytes told as a mistake; a buffer with one value more taken; lanes exchanged.
+// The Rust's unpack_pixels. Rules out: a buffer with one value more taken; alpha read from the byte before it.
 pub fn unpack_pixels(layout: PixelLayout, bytes: &[u8], out: &mut [u32]) -> Checked
     ensures number { λ r. ⌜ checkedNumber r ≡ unpackNumber (length (now (bytes .entry))) (length (now (out .entry))) ⌝ }
     ensures out { λ _. ⌜ now (out .exit) ≡ unpackOut layout (now (bytes .entry)) (now (out .entry)) ⌝ }
@@ -73,7 +73,7 @@ pub fn unpack_pixels(layout: PixelLayout, bytes: &[u8], out: &mut [u32]) -> Chec
     Checked::Fit
 }
 
-// The Rust's argb_has_alpha. Rules out: a flag that looks at a colour; one that looks at the first pixel only.
+// The Rust's argb_has_alpha. Rules out: a flag that looks at red; one that is never true.
 pub fn argb_has_alpha(argb: &[u32]) -> bool
     ensures { λ r. ⌜ r ≡ argbHasAlpha (now (argb .entry)) ⌝ }
 {

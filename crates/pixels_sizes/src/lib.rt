@@ -1,4 +1,4 @@
-// The tests of sizes and lengths that calls share (document 01, numbers 1 to 4 of "Why a call is turned away").
+// The tests of sizes and lengths that calls share (SCOPE, numbers 1 to 4 of "Why a call is turned away").
 use pixels::Checked;
 use pixels::Dimensions;
 use pixels::PIXEL_LANES;
@@ -12,7 +12,7 @@ ghost use Rattle.pixels.specs.Refusals.{checkedNumber};
 ghost use Rattle.pixels.specs.Sizes.{pixelLanes, pictureBytes, sizesNumber};
 
 // Numbers 1 and 2 of a source, its crop and a target: crop, start, resize and the record rules all ask here.
-// Rules out: a right edge summed with wrapping; a crop that is empty and lies outside told 2.
+// Rules out: a right edge summed with wrapping; a crop that reaches the bottom edge refused; an empty crop let through; 2 told before 1.
 pub fn check_sizes(source: Dimensions, crop: Rect, target: Dimensions) -> Checked
     ensures { λ r. ⌜ checkedNumber r ≡ sizesNumber source crop target ⌝ }
 {
@@ -37,7 +37,7 @@ pub fn check_sizes(source: Dimensions, crop: Rect, target: Dimensions) -> Checke
     Checked::Fit
 }
 
-// Another number of bytes than those of a picture of the size. Rules out: three bytes to a pixel; a product that wraps.
+// Another number of bytes than those of a picture of the size. Rules out: three bytes to a pixel; trailing bytes passed.
 pub fn wrong_length(n: usize, size: Dimensions) -> bool
     ensures { λ r. ⌜ r ≡ not (eqb n (pictureBytes pixelLanes (size .width) (size .height))) ⌝ }
 {

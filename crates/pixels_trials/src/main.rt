@@ -1,5 +1,5 @@
-// Runs the trials of document 01 that this layer answers, and the edges beside them: each answer's number, then its values, one to a line in hexadecimal.
-// The file `stdout` holds what document 01 says.
+// Runs the trials of SCOPE that this layer answers, and the edges beside them: each answer's number, then its values, one to a line in hexadecimal.
+// The file `stdout` holds what SCOPE says.
 use pixels::Checked;
 use pixels::Dimensions;
 use pixels::Flagged;

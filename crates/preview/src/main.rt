@@ -5,9 +5,12 @@ use job::Job;
 use job::Offered;
 use job::Started;
 use job::Taken;
+use job_rules::Plan;
+use job_rules::check_start;
 use libc::STDERR_FILENO;
 use libc::STDIN_FILENO;
 use libc::STDOUT_FILENO;
+use pixels::Checked;
 use pixels::Dimensions;
 use pixels::PIXEL_LANES;
 use pixels::Rect;
@@ -214,8 +217,8 @@ fn scale(source: Dimensions, crop: Rect, target: Dimensions) {
     }
 }
 
-// The sizes that the arguments ask for.
-fn preview(source: Dimensions, crop: Rect, width: u32, height: u32) {
+// The preview's size, derived where a side of it is 0: the crop lies within the picture.
+fn derive(source: Dimensions, crop: Rect, width: u32, height: u32) {
     let sized = Dimensions {
         width: crop.width,
         height: crop.height,
@@ -223,6 +226,33 @@ fn preview(source: Dimensions, crop: Rect, width: u32, height: u32) {
     match sized {
         Sized::Refused(why) => say_refusal(why),
         Sized::Size(target) => scale(source, crop, target),
+    }
+}
+
+// A side, or where it is 0 the other.
+fn either(side: u32, other: u32) -> u32 {
+    if side == 0 {
+        return other;
+    }
+    side
+}
+
+// The sizes that the arguments ask for, tested before a side is derived: from a crop beyond the picture none is. A side that is still to be derived passes
+// as the other one does.
+fn preview(source: Dimensions, crop: Rect, width: u32, height: u32) {
+    let plan = Plan {
+        source,
+        layout: PixelLayout::Rgba8,
+        crop,
+        target: Dimensions {
+            width: either(width, height),
+            height: either(height, width),
+        },
+    };
+    let checked = check_start(plan, 131072);
+    match checked {
+        Checked::Refused(why) => say_refusal(why),
+        Checked::Fit => derive(source, crop, width, height),
     }
 }
 

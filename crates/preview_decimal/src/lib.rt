@@ -1,7 +1,5 @@
 // A decimal number as an argument has it.
 ghost use mathlib.Core.Path.{_≡_};
-ghost use mathlib.Core.Bool.{_&&_};
-ghost use lib.Dec.{leb};
 ghost use Rattle.preview_decimal.specs.Decimal.{isDigit, digitOf, decimal};
 
 // What no 32-bit number is.
@@ -23,7 +21,7 @@ fn digit_of(b: u8) -> u64
 }
 
 // The number that a text stands for; NONE where it stands for none below 2^32.
-// Rules out: a number that wraps at 32 bits; the digits before a letter taken for a number; an empty text taken for 0.
+// Rules out: a number of 33 bits taken; a colon taken for a digit; an empty text taken for 0.
 pub fn number(text: &[u8]) -> u64
     ensures { λ r. ⌜ r ≡ decimal (now (text .entry)) ⌝ }
 {

@@ -4,5 +4,4 @@ pub mod WorkRows
 pub mod Import
 pub mod Output
 pub mod Closed
-pub mod Mean
 pub mod Inner

@@ -1,4 +1,4 @@
-// A row comes in (document 01; the Rust: Rescaler::import_row of geometry.rs): matted as its bytes are read, the four lanes at once. Work values wrap.
+// A row comes in (SCOPE; the Rust: Rescaler::import_row of geometry.rs): matted as its bytes are read, the four lanes at once. Work values wrap.
 use arithmetic::frac;
 use arithmetic::matte;
 use arithmetic::mult_fix;
@@ -324,7 +324,7 @@ fn grow_row(row: &[u8], n: usize, m: usize, p: Places, half: &mut [u32])
 
 // One row of the crop, matted as it is read, into a half. A row as wide as the target goes the same way: matting changes it.
 // The Rust: Rescaler::import_row; libwebp: WebPRescalerImportRow.
-// Rules out: a carry rounded down; a row of the crop's width copied as it is; two lanes exchanged; sums that saturate.
+// Rules out: a carry rounded down; a colour that is not matted; two lanes exchanged; the whole last pixel taken off; a pixel past the crop read.
 pub fn import_row(
     layout: PixelLayout,
     crop_width: u32,

@@ -1,4 +1,4 @@
--- A crop row comes into the work rows (document 01, "A row comes in"): what a call that is not turned away has, for the callers of `put_row`; and its steps:
+-- A crop row comes into the work rows (SCOPE, "A row comes in"): what a call that is not turned away has, for the callers of `put_row`; and its steps:
 -- the values go to the half that the definition names, and are added to the first where the height does not grow. Assumes nothing.
 use Prim.Native.Nat.{ℕ, _+_, _-_, _%_, _≤_, _<_}
 use mathlib.Core.Path.{_≡_, ap, _∙_}

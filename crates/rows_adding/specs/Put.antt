@@ -1,4 +1,4 @@
--- What `put_row` promises (document 01, "A row comes in"; "Why a call is turned away"): its number, and the work rows afterwards. Assumes nothing.
+-- What `put_row` promises (SCOPE, "A row comes in"; "Why a call is turned away"): its number, and the work rows afterwards. Assumes nothing.
 use Prim.Native.Nat.{ℕ}
 use mathlib.Core.List.{List, [], _∷_}
 use lib.ListN.{length}

@@ -1,4 +1,4 @@
-// A crop row comes into the work rows (document 01, "A row comes in"; the Rust: Rescaler::import). Here the halves are added; `put` has the whole row.
+// A crop row comes into the work rows (SCOPE, "A row comes in"; the Rust: Rescaler::import). Here the halves are added; `put` has the whole row.
 use pixels::Checked;
 use pixels::PIXEL_LANES;
 use pixels::Refusal;
@@ -26,7 +26,7 @@ fn add_to_first(work: &mut [u32], w: usize)
     }
 }
 
-// The tests, in the order of document 01's table.
+// The tests, in the order of SCOPE's table.
 fn check_add(target_width: u32, room: usize) -> Checked
     ensures { λ r. ⌜ checkedNumber r ≡ addNumber «target_width» room ⌝ }
 {
@@ -40,7 +40,7 @@ fn check_add(target_width: u32, room: usize) -> Checked
 }
 
 // The second half added to the first, modulo 2^32; the second stays.
-// Rules out: a sum that saturates; the last value left out; the sum put into the second half.
+// Rules out: a sum that saturates; a row rounded before it is added; the first value left out; three lanes added; 5 told before 1.
 pub fn add_halves(target_width: u32, work: &mut [u32]) -> Checked
     ensures number { λ r. ⌜ checkedNumber r ≡ addNumber «target_width» (length (now (work .entry))) ⌝ }
     ensures work { λ _. ⌜ now (work .exit) ≡ addWork «target_width» (now (work .entry)) ⌝ }

@@ -72,7 +72,7 @@ fn row_in(
 }
 
 // Crop row c comes into the work rows: its values into its half, then, where the height does not grow, added to the first. The Rust: a turn of Rescaler::import.
-// Rules out: the halves exchanged for even and odd rows; a row put and not added; a row added where the height grows; 5 told before 3.
+// Rules out: the halves exchanged for even and odd rows; a row put and not added.
 pub fn put_row(
     layout: PixelLayout,
     crop: Dimensions,

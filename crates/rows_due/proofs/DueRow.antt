@@ -4,13 +4,14 @@ use mathlib.Core.Path.{_≡_, sym, ap, _∙_}
 use mathlib.Core.Bool.{true, false, true≢false}
 use mathlib.Core.Logic.{⊎-elim}
 use native.Mathlib.Omega.{arith}
-use native.Mathlib.Nat.{mul-le-mul, mul-zero, eq-or-lt-of-le, add-sub-cancel-left}
+use native.Mathlib.Nat.{mul-le-mul, add-sub-cancel-left}
 use lib.Dec.{leb, ltb}
-use borrow.Author.Tests.{eq-eqb, ne-eqb, le-leb, lt-leb, lt-ltb, le-ltb, leb-true, ltb-true}
+use borrow.Author.Tests.{le-leb, lt-leb, lt-ltb, le-ltb, leb-true, ltb-true}
 use Rattle.arithmetic.proofs.Orders.{le-or-lt}
 use Rattle.arithmetic.specs.Quotient.{ceil}
 use Rattle.arithmetic.proofs.Quotients.{ceil-low, ceil-high, ceil-is}
 use Rattle.rows_schedule.specs.Schedule.{needed}
+use Rattle.rows_schedule.proofs.Needed.{needed-down, needed-grow}
 use Rattle.pixels.proofs.Truths.{both-true}
 use Rattle.rows_due.specs.Due.{within, due}
 
@@ -51,24 +52,6 @@ due-some h g u y l e =
     ⊎-elim (λ z. absurd (true≢false (sym e ∙ due-none h g u y l (omega arith)))) (λ p. p) (le-or-lt u 0)
 
 -- ---- the crop rows that row y needs are those for which it is due, and no others
-needed-down : (h g y : ℕ) → g ≤ h → needed h g y ≡ ceil (suc y * h) g
-unfolding needed
-needed-down h g y l = simp (le-leb g h l)
-
--- one crop row is no case of its own
-needed-up : (h g y : ℕ) → h < g → 1 ≤ h → needed h g y ≡ 1 + ceil (y * (h - 1)) (g - 1)
-unfolding needed
-needed-up h g y l p = ⊎-elim one more (eq-or-lt-of-le p)
-  where
-    one : 1 ≡ h → needed h g y ≡ 1 + ceil (y * (h - 1)) (g - 1)
-    one e =
-        let z : y * (h - 1) ≡ 0 = ap (λ (t : ℕ). y * (t - 1)) (sym e) ∙ mul-zero y in
-        let none : ceil (y * (h - 1)) (g - 1) ≡ 0 = ceil-is (y * (h - 1)) (g - 1) {q = 0} {r = 0} (omega arith) (omega arith) in
-        simp (lt-leb g h l, eq-eqb h 1 (sym e), none)
-
-    more : 1 < h → needed h g y ≡ 1 + ceil (y * (h - 1)) (g - 1)
-    more m = simp (lt-leb g h l, ne-eqb h 1 (λ e. omega arith))
-
 range-is : (x from room : ℕ) → from ≤ x → x < from + room → within x from room ≡ true
 range-is x from room l u = simp (le-leb from x l, lt-ltb x (from + room) u)
 
@@ -86,9 +69,10 @@ needed-due h g y p q = ⊎-elim down up (le-or-lt g h)
         let pos : 0 < g - 1 = omega arith in
         let low : y * (h - 1) ≤ c * (g - 1) = ceil-low (y * (h - 1)) (g - 1) pos in
         let high : c * (g - 1) < y * (h - 1) + (g - 1) = ceil-high (y * (h - 1)) (g - 1) pos in
-        rw (needed-up h g y l p)
+        rw (needed-grow h g y p l)
         (due-up h g (1 + c) y l (omega arith) ∙ ap (λ (t : ℕ). within (t * (g - 1)) (y * (h - 1)) (g - 1)) (add-sub-cancel-left 1 c) ∙ range-is _ _ (g - 1) low high)
 
+-- an end in itself: no other count is due, so `due` says the same as `needed`
 pub due-needed : (h g u y : ℕ) → 1 ≤ h → due h g u y ≡ true → u ≡ needed h g y
 due-needed h g u y p e = ⊎-elim down up (le-or-lt g h)
   where
@@ -107,7 +91,7 @@ due-needed h g u y p e = ⊎-elim down up (le-or-lt g h)
         let high = range-high ((u - 1) * (g - 1)) (y * (h - 1)) (g - 1) d in
         let least : ceil (y * (h - 1)) (g - 1) ≡ u - 1 =
         ceil-is (y * (h - 1)) (g - 1) {q = u - 1} {r = (u - 1) * (g - 1) - y * (h - 1)} (omega arith) (omega arith) in
-        sym (needed-up h g y l p ∙ omega arith)
+        sym (needed-grow h g y p l ∙ omega arith)
 
 -- ---- the product of a row's number, one more than it, fits 64 bits
 pub row-most : {y h : ℕ} → y < 2 ^ 32 → h < 2 ^ 32 → (y + 1) * h ≤ 2 ^ 32 * 0xffff_ffff

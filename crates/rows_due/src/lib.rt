@@ -1,4 +1,4 @@
-// When an output row is due (document 01, "A row goes out": the range of d; the Rust: Rescaler::has_pending_output, which has a running y_accum in
+// When an output row is due (SCOPE, "A row goes out": the range of d; the Rust: Rescaler::has_pending_output, which has a running y_accum in
 // place of the row's number).
 ghost use mathlib.Core.Path.{_≡_};
 ghost use Prim.Native.Nat.{_-_};

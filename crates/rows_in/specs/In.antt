@@ -1,4 +1,4 @@
--- A source row comes in (document 01, "A row comes in"): its number, and the work rows afterwards. s is the row's place in the source. Assumes nothing.
+-- A source row comes in (SCOPE, "A row comes in" and "The job"): its number, and the work rows afterwards. s is the row's place in the source. Assumes nothing.
 use Prim.Native.Nat.{ℕ, _+_, _-_}
 use mathlib.Core.Bool.{Bool, cond, _&&_}
 use mathlib.Core.List.{List}

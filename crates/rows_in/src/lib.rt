@@ -1,4 +1,4 @@
-// A source row comes in (document 01, "A row comes in": "Rows outside the crop count and touch no work value"; the Rust: a turn of Rescaler::import).
+// A source row comes in (SCOPE, "The job": "Rows outside the crop count and touch no work value"; the Rust: a turn of Rescaler::import).
 use pixels::Checked;
 use pixels::Dimensions;
 use pixels::Rect;

@@ -7,7 +7,7 @@ use native.Mathlib.Nat.{mul-le-mul-left, mul-le-mul-right}
 use Rattle.arithmetic.specs.Sum.{sum}
 use Rattle.arithmetic.proofs.Orders.{le-or-lt}
 use Rattle.arithmetic.proofs.Sums.{sum-mono, sum-add, sum-scale}
-use Rattle.rows.specs.Mean.{Near}
+use Rattle.rows_laws.specs.Mean.{Near}
 use Rattle.rows.specs.Output.{clamp}
 
 -- the value is above the exact sum by at most s / 2, and below it by at most 1026 × s / 2048

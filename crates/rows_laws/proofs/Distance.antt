@@ -1,4 +1,4 @@
--- The distance law (document 01, "Exact mean"): under the premise every scaled byte is less than two levels off the exact mean over the whole crop.
+-- The distance law (SCOPE, "Exact mean"): under the premise every scaled byte is less than two levels off the exact mean over the whole crop.
 -- Why: one row's value is close to the exact sum of its pixels (Columns), and the byte made of such values is near their mean, whether the height
 -- shrinks (HeightShrinks) or grows (HeightGrows). Assumes nothing.
 use Prim.Native.Nat.{ℕ, _*_, _≤_, _<_}
@@ -9,7 +9,7 @@ use Rattle.arithmetic.proofs.Orders.{le-or-lt}
 use Rattle.arithmetic.proofs.Weights.{span-shrink, span-grow}
 use Rattle.rows.specs.Column.{value}
 use Rattle.rows.specs.Closed.{scaled}
-use Rattle.rows.specs.Mean.{total, exactSum, Near, Premise}
+use Rattle.rows_laws.specs.Mean.{total, exactSum, Near, Premise}
 use Rattle.rows_laws.proofs.Close.{Close}
 use Rattle.rows_laws.proofs.Columns.{exact, slack, slack-small, span-most, value-close, exact-range}
 use Rattle.rows_laws.proofs.HeightShrinks.{distance-down}

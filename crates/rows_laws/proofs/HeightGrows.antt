@@ -17,7 +17,7 @@ use Rattle.rows_schedule.specs.Schedule.{needed}
 use Rattle.rows_schedule.proofs.Needed.{up-low, up-high, needed-some, needed-le}
 use Rattle.rows.specs.Output.{restUp, blend, byteUp}
 use Rattle.rows.specs.Closed.{newest, scaledByte}
-use Rattle.rows.specs.Mean.{Near}
+use Rattle.rows_laws.specs.Mean.{Near}
 use Rattle.rows_laws.proofs.Close.{Close, close-weighted, near-clamp}
 use Rattle.rows_laws.proofs.Newest.{newest-at, newest-most}
 use Rattle.rows_laws.proofs.Blends.{Mixed, blend-mixed}

@@ -5,9 +5,9 @@ use Prim.Native.Nat.{ℕ, zero, suc, _+_, _*_, _-_, _/_, _%_, _^_, _≤_, _<_}
 use mathlib.Core.Path.{_≡_, sym, _∙_, ap}
 use mathlib.Core.Logic.{_≢_, _⊎_, inl, inr}
 use native.Mathlib.Omega.{arith}
-use native.Mathlib.Nat.{mul-le-mul, mul-le-mul-left, mul-le-mul-right, lt-of-mul-lt-mul-right, le-of-mul-le-mul-right, eq-or-lt-of-le, zero-mul, mul-zero}
+use native.Mathlib.Nat.{mul-le-mul, mul-le-mul-left, mul-le-mul-right, lt-of-mul-lt-mul-right, le-of-mul-le-mul-right, eq-or-lt-of-le, zero-mul}
 use borrow.Author.Tests.{le-leb, eq-eqb, ne-eqb}
-use Rattle.arithmetic.specs.FixedPoint.{MULT, FLOOR, FRAC}
+use Rattle.arithmetic.specs.FixedPoint.{MULT, FRAC}
 use Rattle.arithmetic.specs.Sum.{sum}
 use Rattle.arithmetic.specs.Word.{wrapSub, wrapMul}
 use Rattle.arithmetic.specs.Weight.{shrinkWeight, weight}
@@ -22,20 +22,12 @@ use Rattle.rows_schedule.specs.Schedule.{needed, since}
 use Rattle.rows_schedule.proofs.Needed.{down-low, down-high, since-rise, needed-le}
 use Rattle.rows.specs.Output.{restDown, share, ratio, byteDown, clamp}
 use Rattle.rows.specs.Closed.{newest, shareBefore, firstHalf, scaledByte}
-use Rattle.rows.specs.Mean.{Near, sumBound}
+use Rattle.rows_laws.specs.Mean.{Near, sumBound}
+use Rattle.rows.proofs.Outputs.{share-is}
 use Rattle.rows_laws.proofs.Close.{Close, close-weighted, near-clamp}
 use Rattle.rows_laws.proofs.Newest.{newest-at, newest-most}
 
 -- ---- f: the share of d / g of a value x, rounded down
-
--- the case d = 0 is no exception
-pub share-is : (g d x : ℕ) → share g d x ≡ FLOOR x (wrapMul (FRAC 1 g) d)
-unfolding share FLOOR
-share-is g zero x =
-    let q : (FRAC 1 g * 0) % 2 ^ 32 ≡ 0 = ap (λ (t : ℕ). t % 2 ^ 32) (mul-zero (FRAC 1 g)) in
-    rw q (omega arith)
-share-is g (suc d) x = simp (ne-eqb (suc d) 0 (omega arith))
-
 pub share-le : (g d x : ℕ) → share g d x ≤ x
 share-le g d x = rw (share-is g d x) (FLOOR-le x (wrapMul (FRAC 1 g) d) (omega arith))
 

@@ -9,12 +9,10 @@ use native.Mathlib.Omega.{arith}
 use native.Mathlib.Nat.{div-zero}
 use lib.ListN.{length, getD, replicate, length-append, length-replicate, getD-replicate, List·getD-append}
 use borrow.Author.Tests.{le-leb, lt-leb, eq-eqb, ne-eqb}
-use Rattle.arithmetic.specs.Word.{wrapAdd, wrapMul}
-use Rattle.arithmetic.specs.FixedPoint.{FRAC}
+use Rattle.arithmetic.specs.Word.{wrapAdd}
 use Rattle.arithmetic.proofs.Orders.{le-or-lt}
 use Rattle.arithmetic.proofs.Quotients.{div-low}
 use Rattle.arithmetic.proofs.Sums.{sum-zero, sum-suc, sum-none-yet}
-use Rattle.arithmetic.proofs.FixedPoints.{FLOOR-le}
 use Rattle.rows_schedule.specs.Schedule.{needed, since}
 use Rattle.rows_schedule.proofs.Needed.{needed-some, needed-equal}
 use Rattle.rows.specs.Output.{restDown, share, ratio, leftDown}

@@ -21,11 +21,12 @@ use Rattle.rows_schedule.specs.Schedule.{needed, since}
 use Rattle.rows_schedule.proofs.Needed.{needed-le, needed-equal, since-rise}
 use Rattle.rows.specs.Column.{start, over, last, columnSum, carry, shrinkValue, growValue, value}
 use Rattle.rows.specs.Output.{clamp, restDown, share, ratio, byteDown, restUp, mixed, blend, byteUp}
-use Rattle.rows.specs.Mean.{sumBound}
+use Rattle.rows_laws.specs.Mean.{sumBound}
 use Rattle.rows.specs.Closed.{newest, shareBefore, firstHalf, scaledByte, scaled}
 use Rattle.rows.proofs.Columns.{value-shrink, value-grow, over-small}
+use Rattle.rows.proofs.Outputs.{share-is}
 use Rattle.rows_laws.proofs.Columns.{start-step, start-within, slack-small, value-range-511}
-use Rattle.rows_laws.proofs.HeightShrinks.{share-is, share-le, whole-fits, scaled-down, first-exact, byte-whole, byte-part, ratio-whole}
+use Rattle.rows_laws.proofs.HeightShrinks.{share-le, whole, whole-fits, scaled-down, first-exact, byte-whole, byte-part, ratio-whole}
 use Rattle.rows_laws.proofs.HeightGrows.{scaled-up}
 
 -- ---- the value of a column
@@ -137,10 +138,6 @@ record Rises (x x' f f' : ℕ) : Type 0 where
 
 rises-step : (F F' s s' l l' f f' : ℕ) → F ≤ F' → s ≤ s' → l ≤ l' → f ≤ l → f' ≤ l' → f' + l ≤ f + l' → Rises (F + (s + l)) (F' + (s' + l')) f f'
 rises-step F F' s s' l l' f f' hF hs hl low low' left = omega arith
-
--- the first half before f comes off, not wrapped
-abbrev whole : ℕ → ℕ → (ℕ → ℕ) → ℕ → ℕ
-whole h g v y = shareBefore h g v y + sum v (since h g y) (needed h g y - since h g y)
 
 module _ (h g : ℕ) (v v' : ℕ → ℕ) (y : ℕ) (shrinks : g ≤ h) (within : y < g) (le : (c : ℕ) → c < h → v c ≤ v' c) where
   first-rises : Rises (whole h g v y) (whole h g v' y) (shareBefore h g v (suc y)) (shareBefore h g v' (suc y))

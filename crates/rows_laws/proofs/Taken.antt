@@ -11,7 +11,7 @@ use Rattle.arithmetic.specs.Weight.{span}
 use Rattle.arithmetic.specs.Matte.{laneOf, pixelOf, multArgb, scaleColour, matteFactor, restoreFactor}
 use Rattle.arithmetic.proofs.Mattes.{pixel-lane, lane-byte, lane-zero, matte-colour, matte-within, argb-opaque, argb-clear, restore-alpha, restore-colour, scaleColour-mono}
 use Rattle.rows.specs.Closed.{scaled}
-use Rattle.rows.specs.Mean.{sumBound}
+use Rattle.rows_laws.specs.Mean.{sumBound}
 use Rattle.rows_laws.proofs.Monotone.{scaled-mono, scaled-byte}
 
 -- ---- a pixel of four lanes, no colour above its alpha, restored
@@ -66,7 +66,7 @@ pub matte-matted : (n h : ℕ) (argb : ℕ → ℕ → ℕ) → Matted n h (λ k
 matte-matted n h argb =
     record { alpha = λ c i l u. lane-byte (multArgb (argb c i) false) 3; colour = λ k b c i l u. matte-within (argb c i) k b }
 
--- and is monotone in the colour for one alpha
+-- and is monotone in the colour for one alpha: for request 10 (SCOPE)
 pub matte-mono : (argb argb' k : ℕ) → k < 3 → laneOf argb 3 ≡ laneOf argb' 3 → laneOf argb k ≤ laneOf argb' k → laneOf (multArgb argb false) k ≤ laneOf (multArgb argb' false) k
 matte-mono argb argb' k l same le =
     rw (matte-colour argb k l, matte-colour argb' k l, same) (scaleColour-mono (matteFactor (laneOf argb' 3)) le)

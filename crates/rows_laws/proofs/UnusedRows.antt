@@ -32,7 +32,7 @@ weight-unused h g y c p q unused = by (le-or-lt g h)
     by (inr high) =
         weight-grow h g y c high ∙ grow-unused h g y (needed h g y) c (up-low h g y p high) (needed-some h g y p q) unused
 
--- so a weighted sum over all crop rows is one over the rows needed
+-- an end in itself: a weighted sum over all crop rows is one over the rows needed, so what the claim says of a row is of rows accepted before it
 pub sum-needed : (h g y : ℕ) (e : ℕ → ℕ) → 0 < h → y < g → sum (λ c. weight h g y c * e c) 0 h ≡ sum (λ c. weight h g y c * e c) 0 (needed h g y)
 sum-needed h g y e p within =
     sum-within (λ c. weight h g y c * e c) 0 (needed h g y) h (omega (arith, needed-le h g y p within)) (λ c l. absurd (omega arith))

@@ -9,25 +9,19 @@ use native.Mathlib.Omega.{arith}
 use native.Mathlib.Nat.{zero-add}
 use lib.Dec.{eqb}
 use lib.ListN.{length, getD, take, drop, length-append, length-drop, List·getD-append}
-use lib.Seq.{getD-append-add, getD-drop, getD-take, length-take-le, drop-drop, drop-at}
+use lib.Seq.{getD-append-add, getD-take, length-take-le, drop-drop, drop-at}
 use borrow.Author.Tests.{le-leb, lt-leb, eq-eqb, ne-eqb}
 use Rattle.arithmetic.specs.Word.{wrapAdd}
-use Rattle.arithmetic.specs.Table.{tabulate}
 use Rattle.arithmetic.proofs.Orders.{le-or-lt}
-use Rattle.arithmetic.proofs.Tables.{length-tabulate, getD-table, getD-beyond, drop-table}
+use Rattle.arithmetic.proofs.Tables.{getD-table, drop-table}
 use Rattle.rows.specs.Output.{restDown, share, ratio, leftDown}
 use Rattle.rows.specs.WorkRows.{Scale, written, added, rowIn, halfOf, rowLeft}
+use Rattle.rows.proofs.Lanes.{written-length, written-beyond}
 
 -- ---- a table over the first w values
 module _ (w : ℕ) (f : ℕ → ℕ) (s : List ℕ) where
   written-at : (x : ℕ) → x < w → getD (written w f s) x 0 ≡ f x
   written-at x l = getD-table f w (drop w s) x l
-
-  written-beyond : (x : ℕ) → getD (written w f s) (w + x) 0 ≡ getD s (w + x) 0
-  written-beyond x = getD-beyond f w (drop w s) x ∙ getD-drop w s x 0
-
-  written-length : w ≤ length s → length (written w f s) ≡ length s
-  written-length l = length-append (tabulate f w) (drop w s) ∙ omega (arith, length-tabulate f w, length-drop w s)
 
   written-rest : (n : ℕ) → drop (w + n) (written w f s) ≡ drop (w + n) s
   written-rest n = sym (drop-drop n w (written w f s)) ∙ ap (drop n) (drop-table f w (drop w s)) ∙ drop-drop n w s

@@ -1,5 +1,5 @@
--- An output row goes out, whole (document 01, "A row goes out", "then restored and packed"): when it is refused, the row, its alpha flag and the work rows
--- afterwards. k source rows are accepted, y is document 01's Y. Assumes nothing.
+-- An output row goes out, whole (SCOPE, "A row goes out", "then restored and packed"): when it is refused, the row, its alpha flag and the work rows
+-- afterwards. k source rows are accepted, y is SCOPE's Y. Assumes nothing.
 use Prim.Native.Nat.{ℕ}
 use mathlib.Core.Bool.{Bool}
 use mathlib.Core.List.{List}

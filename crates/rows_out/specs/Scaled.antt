@@ -1,5 +1,5 @@
--- An output row is made (document 01, "A row goes out"): the buffers afterwards, its number being `scaleNumber`. Crop and target are sizes, u crop rows
--- are used, y is document 01's Y. Assumes nothing.
+-- An output row is made (SCOPE, "A row goes out"): the buffers afterwards, its number being `scaleNumber`. Crop and target are sizes, u crop rows
+-- are used, y is SCOPE's Y. Assumes nothing.
 use Prim.Native.Nat.{ℕ}
 use mathlib.Core.List.{List}
 use lib.ListN.{length}

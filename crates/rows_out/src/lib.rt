@@ -1,4 +1,4 @@
-// A row goes out, whole (document 01, "A row goes out"; the Rust: Rescaler::export_row and the end of resize): scaled, restored and packed.
+// A row goes out, whole (SCOPE, "A row goes out"; the Rust: Rescaler::export_row and the end of resize): scaled, restored and packed.
 use pixels::Checked;
 use pixels::Dimensions;
 use pixels::Flagged;
@@ -18,7 +18,7 @@ ghost use Rattle.rows_tests.specs.Tests.{scaleNumber};
 ghost use Rattle.rows_out.specs.Scaled.{scaledOut, scaledWork};
 ghost use Rattle.rows_out.specs.Out.{outNumber, outFlag, outRow, outWork};
 
-// Document 01's span.
+// SCOPE's span.
 fn span(n: u32, m: u32) -> u32
     ensures { λ r. ⌜ r ≡ weight.span n m ⌝ }
 {
@@ -28,7 +28,7 @@ fn span(n: u32, m: u32) -> u32
     m - 1
 }
 
-// Makes output row `row` (document 01's Y) of a crop of which `used` rows came in, as lanes B, G, R, A that are not restored yet.
+// Makes output row `row` (SCOPE's Y) of a crop of which `used` rows came in, as lanes B, G, R, A that are not restored yet.
 // Rules out: a lane less for each pixel; a span of the whole target where the width grows.
 pub fn scale_row(
     crop: Dimensions,
@@ -58,7 +58,7 @@ pub fn scale_row(
     scale_values(s, used, row, out, work)
 }
 
-// Makes output row `row` (document 01's Y), of which `accepted` source rows came in; returns the row's alpha flag.
+// Makes output row `row` (SCOPE's Y), of which `accepted` source rows came in; returns the row's alpha flag.
 // Rules out: the first row again and again; a row made of no crop rows; the flag of the row dropped.
 pub fn take_row(
     layout: PixelLayout,

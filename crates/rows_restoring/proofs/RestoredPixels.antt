@@ -18,14 +18,14 @@ use Rattle.arithmetic.proofs.Mattes.{argb-opaque, pixel-lane}
 use Rattle.pixels_layout.specs.declared.PixelLayout.{PixelLayout}
 use Rattle.pixels_layout.specs.declared.PixelLayout.the-variants.{Rgba8, Argb8, Bgra8}
 use Rattle.pixels.specs.Sizes.{pixelLanes, rowBytes}
-use Rattle.pixels_layout.specs.Layout.{alphaLane, placeOf, alphaAt, packedByte}
+use Rattle.pixels_layout.specs.Layout.{alphaLane, placeOf, packedByte}
 use Rattle.pixels_layout.specs.Lanes.{restoredPixel, restoredPlace}
 use Rattle.pixels_alpha.specs.Alpha.{someClear, hasAlpha}
 use Rattle.pixels_layout.proofs.Tabled.{each-lane, place-lt, place-twice}
 use Rattle.pixels_layout.proofs.Packing.{packed-byte}
 use Rattle.pixels_alpha.proofs.Flags.{clear-none, clear-cong}
 use Rattle.rows_restoring.specs.Inner.Restoring.{wordAt, restoredAt, putLanes, orderedByte, clearAfter}
-use Rattle.arithmetic.proofs.Stores.{Stored, none-stored, store, keep, place, ahead}
+use Rattle.arithmetic.proofs.Stores.{Stored, none-stored, store, store-four, keep, place, ahead}
 
 -- ---- the scaler's own order
 own-place : (k : ℕ) → k < pixelLanes → placeOf Bgra8 k ≡ k
@@ -37,10 +37,7 @@ pub put-next : {f : ℕ → ℕ} {s₀ s : List ℕ} {w : ℕ} (v : ℕ → ℕ)
 unfolding putLanes
 put-next {f} v j i h e =
     let first : v 0 ≡ f (pixelLanes * j) = e 0 (omega arith) ∙ ap f (add-zero (pixelLanes * j)) in
-    let a = store i (omega arith) first in
-    let b = place (store a (omega arith) (e 1 (omega arith))) (pixelLanes * j + 2) (omega arith) in
-    let c = place (store b (omega arith) (e 2 (omega arith))) (pixelLanes * j + 3) (omega arith) in
-    place (store c (omega arith) (e 3 (omega arith))) (pixelLanes * (j + 1)) (omega arith)
+    place (store-four i h first (e 1 (omega arith)) (e 2 (omega arith)) (e 3 (omega arith))) (pixelLanes * (j + 1)) (omega arith)
 
 -- the same lanes again
 pub put-same : (s : List ℕ) (x : ℕ) (v : ℕ → ℕ) → ((k : ℕ) → k < pixelLanes → v k ≡ getD s (x + k) 0) → s ≡ putLanes s x v
@@ -164,10 +161,9 @@ module _ {s₀ s : List ℕ} {m j : ℕ} where
       let at : (x : ℕ) → pixelLanes * j ≤ x → getD s x 0 ≡ getD s₀ x 0 = ahead (i .bytes) in
       let first : getD s (pixelLanes * j + 3) 0 ≡ orderedByte Argb8 s₀ (pixelLanes * j) = at (pixelLanes * j + 3) (omega arith) ∙ sym (ordered-byte Argb8 s₀ j 0 (omega arith)) ∙ ap (orderedByte Argb8 s₀) (add-zero (pixelLanes * j)) in
       let last : getD s (pixelLanes * j) 0 ≡ orderedByte Argb8 s₀ (pixelLanes * j + 3) = at (pixelLanes * j) (omega arith) ∙ ap (λ (x : ℕ). getD s₀ x 0) (sym (add-zero (pixelLanes * j))) ∙ sym (ordered-byte Argb8 s₀ j 3 (omega arith)) in
-      let a = store (i .bytes) (omega arith) first in
-      let b = place (store a (omega arith) (at (pixelLanes * j + 2) (omega arith) ∙ sym (ordered-byte Argb8 s₀ j 1 (omega arith)))) (pixelLanes * j + 2) (omega arith) in
-      let c = place (store b (omega arith) (at (pixelLanes * j + 1) (omega arith) ∙ sym (ordered-byte Argb8 s₀ j 2 (omega arith)))) (pixelLanes * j + 3) (omega arith) in
-      record { bytes = place (store c (omega arith) last) (pixelLanes * (j + 1)) (omega arith) }
+      let second = at (pixelLanes * j + 2) (omega arith) ∙ sym (ordered-byte Argb8 s₀ j 1 (omega arith)) in
+      let third = at (pixelLanes * j + 1) (omega arith) ∙ sym (ordered-byte Argb8 s₀ j 2 (omega arith)) in
+      record { bytes = place (store-four (i .bytes) (omega arith) first second third last) (pixelLanes * (j + 1)) (omega arith) }
 
 -- the scaler's own order
 pub ordered-same : (s : List ℕ) (m : ℕ) → length s ≡ rowBytes pixelLanes m → s ≡ tabulate (orderedByte Bgra8 s) (rowBytes pixelLanes m)

@@ -1,4 +1,4 @@
--- An output row is restored and packed (document 01, "A row goes out" and "Lanes"): when it is refused, the row and its alpha flag. m is the
+-- An output row is restored and packed (SCOPE, "A row goes out" and "Lanes"): when it is refused, the row and its alpha flag. m is the
 -- target's width; the buffer holds the lanes B, G, R, A, pixel after pixel. Assumes nothing.
 use Prim.Native.Nat.{ℕ}
 use mathlib.Core.Bool.{Bool}

@@ -1,4 +1,4 @@
-// Pixels of an output row are restored and packed (document 01, "A row goes out" and "Lanes"; the Rust: mult_argb with `inverse` and pack_pixels;
+// Pixels of an output row are restored and packed (SCOPE, "A row goes out" and "Lanes"; the Rust: mult_argb with `inverse` and pack_pixels;
 // libwebp's WebPMultARGBRow_C). In place, in passes: restore where a pixel isn't opaque, then the byte order.
 use arithmetic::mult_argb;
 use pixels::Checked;

@@ -17,6 +17,7 @@ use Rattle.arithmetic.proofs.Quotients.{div-bound}
 use Rattle.arithmetic.proofs.FixedPoints.{frac-exact, frac-zero}
 use Rattle.rows.specs.Output.{clamp, restDown, share, ratio, byteDown, leftDown, restUp, mixed, blend, byteUp}
 use Rattle.rows.specs.WorkRows.{Scale, halfOf, byteOut, rowLeft}
+use Rattle.rows.proofs.Outputs.{share-is}
 use Rattle.rows_scaling.specs.Inner.Scaling.{RoomAsks, GrowAsks, shrinkLeft, shrinkByte, lowByte, growByte}
 
 -- ---- two words weighed by 2^32 in all
@@ -42,15 +43,6 @@ none-older factor work new old x =
     ap (λ (t : ℕ). clamp (MULT t factor)) (mixed-none n n ∙ sym (mixed-none n (getD work (old + x) 0)))
 
 -- ---- d = 0 is no case of its own: its factors are 0
-floor-none : (x : ℕ) → FLOOR x 0 ≡ 0
-unfolding FLOOR
-floor-none x = omega arith
-
-pub share-is : (g d second : ℕ) → FLOOR second (wrapMul (FRAC 1 g) d) ≡ share g d second
-unfolding share
-share-is g zero second = ap (λ (t : ℕ). FLOOR second (t % 2 ^ 32)) (mul-zero (FRAC 1 g)) ∙ floor-none second
-share-is g (suc d) second = simp (ne-eqb (suc d) 0 (λ e. omega arith))
-
 frac-none : (m : ℕ) → FRAC 0 m ≡ 0
 unfolding FRAC
 frac-none m = ap (λ (t : ℕ). t % 2 ^ 32) (zero-div m)
@@ -92,7 +84,7 @@ factor-half (suc (suc n)) ne =
     let more : 2 < suc (suc n) = omega arith in
     rw (frac-exact 1 (suc (suc n)) (omega arith)) (div-bound (suc (suc n)) (omega arith) (omega arith))
 
--- ---- g ≤ h: what the loops write is what document 01 says
+-- ---- g ≤ h: what the loops write is what SCOPE says
 module _ (s : Scale) (u y : ℕ) (work : List ℕ) (down : s .g ≤ s .h) where
   abbrev d : ℕ
   d = restDown (s .h) (s .g) u y
@@ -103,7 +95,7 @@ module _ (s : Scale) (u y : ℕ) (work : List ℕ) (down : s .g ≤ s .h) where
   module _ {q step : ℕ} (q-is : q ≡ full) (step-is : step ≡ wrapMul (FRAC 1 (s .g)) d) where
     left-is : (x : ℕ) → shrinkLeft step (s .w) work x ≡ share (s .g) d (getD work (s .w + x) 0)
     unfolding shrinkLeft
-    left-is x = ap (FLOOR (getD work (s .w + x) 0)) step-is ∙ share-is (s .g) d (getD work (s .w + x) 0)
+    left-is x = ap (FLOOR (getD work (s .w + x) 0)) step-is ∙ sym (share-is (s .g) d (getD work (s .w + x) 0))
 
     module _ (word : q ≡ 2 ^ 32 → ⊥) where
       ne : full ≡ 2 ^ 32 → ⊥

@@ -1,4 +1,4 @@
--- What a row that is due tells of document 01's d, the rest: it is at least 0 and below its end. Assumes nothing.
+-- What a row that is due tells of SCOPE's d, the rest: it is at least 0 and below its end. Assumes nothing.
 use Prim.Native.Nat.{ℕ, suc, _+_, _*_, _-_, _≤_, _<_}
 use mathlib.Core.Path.{_≡_, sym, _∙_}
 use mathlib.Core.Bool.{true}

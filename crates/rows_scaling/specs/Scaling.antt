@@ -1,4 +1,4 @@
--- A row of values is made (document 01, "A row goes out"): the buffers afterwards, its number being `valuesNumber`. u crop rows are used, y is document 01's Y.
+-- A row of values is made (SCOPE, "A row goes out"): the buffers afterwards, its number being `valuesNumber`. u crop rows are used, y is SCOPE's Y.
 -- Assumes nothing.
 use Prim.Native.Nat.{ℕ}
 use mathlib.Core.List.{List}

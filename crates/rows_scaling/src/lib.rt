@@ -1,4 +1,4 @@
-// A row goes out (document 01; the Rust: Rescaler::export_row of geometry.rs, libwebp's WebPRescalerExportRow). Work values may be anything:
+// A row goes out (SCOPE; the Rust: Rescaler::export_row of geometry.rs, libwebp's WebPRescalerExportRow). Work values may be anything:
 // differences wrap, products are taken in 64 bits.
 use arithmetic::frac;
 use arithmetic::mult_fix;
@@ -198,7 +198,7 @@ fn grow_row(s: RowScale, used: u32, row: u32, out: &mut [u8], work: &[u32])
     blend_lanes(work, new, old, w, b, factor, signed, out);
 }
 
-// Makes output row `row` (document 01's Y) of a crop of which `used` rows came in: w values, whatever the lanes of its pixels, none of them restored yet.
+// Makes output row `row` (SCOPE's Y) of a crop of which `used` rows came in: w values, whatever the lanes of its pixels, none of them restored yet.
 // The Rust: Rescaler::export_row. Rules out: f rounded to the nearest; a difference that saturates; the ratio 2^32 taken as a word; the halves exchanged; one
 // column mended.
 pub fn scale_values(s: RowScale, used: u32, row: u32, out: &mut [u8], work: &mut [u32]) -> Checked

@@ -1,4 +1,4 @@
--- R of k (document 01, "The job"; MATHEMATICS 4): source rows above and below the crop leave u, and so R, as it was; R of k starts at 0, does not
+-- R of k (SCOPE, "The job"; MATHEMATICS 4): source rows above and below the crop leave u, and so R, as it was; R of k starts at 0, does not
 -- fall, is at most g, and is g once the crop's last row came. Assumes nothing.
 use Prim.Native.Nat.{ℕ, zero, suc, _+_, _≤_, _<_}
 use mathlib.Core.Path.{_≡_, ap}

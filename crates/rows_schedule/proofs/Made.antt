@@ -1,4 +1,4 @@
--- R of u (document 01, "The job"; MATHEMATICS 4): its three forms, that it starts at 0, does not fall, rises by at most one where the height does
+-- R of u (SCOPE, "The job"; MATHEMATICS 4): its three forms, that it starts at 0, does not fall, rises by at most one where the height does
 -- not grow, and ends at g. Each law goes by the three forms once; a quotient is then compared by multiplying it out. Assumes nothing.
 use Prim.Native.Nat.{ℕ, zero, suc, _+_, _*_, _-_, _/_, _≤_, _<_}
 use mathlib.Core.Path.{_≡_, _∙_}
@@ -70,7 +70,7 @@ made-le h g u (suc n) p =
     let e : suc n + u ≡ suc (n + u) = omega arith in
     rw e (omega (arith, made-le h g u n p, made-mono h g (n + u) p))
 
--- a height that does not grow: at most one row for each crop row
+-- a height that does not grow: at most one row for each crop row; for the bands of request 9 (SCOPE)
 pub made-step : (h g u : ℕ) → 0 < h → g ≤ h → made h g (suc u) ≤ suc (made h g u)
 made-step h g u p l =
     rw (made-down h g u l, made-down h g (suc u) l)

@@ -64,7 +64,7 @@ makes h g u y p q l n = by u n (form h g p)
 pub made-of-needed : (h g u y : ℕ) → 0 < h → y < g → needed h g y ≤ u → y < made h g u
 made-of-needed h g u y p l n = makes h g u y p (omega arith) (λ e m. l) n
 
--- ---- the least such number
+-- ---- the least such number; for the bands of request 9 (SCOPE)
 pub needed-makes : (h g y : ℕ) → 0 < h → y < g → y < made h g (needed h g y)
 needed-makes h g y p l = made-of-needed h g (needed h g y) y p l (omega arith)
 
@@ -155,14 +155,6 @@ up-low h g y p m = rw (grow-back h g y p m) (ceil-low (y * (h - 1)) (g - 1) (ome
 
 pub up-high : (h g y : ℕ) → 0 < h → h < g → (needed h g y - 1) * (g - 1) < y * (h - 1) + (g - 1)
 up-high h g y p m = rw (grow-back h g y p m) (ceil-high (y * (h - 1)) (g - 1) (omega arith))
-
--- d is not 0: an older crop row is there
-pub up-two : (h g y : ℕ) → y * (h - 1) < (needed h g y - 1) * (g - 1) → 2 ≤ needed h g y
-up-two h g y l = by (le-or-lt 2 (needed h g y))
-  where
-    by : (2 ≤ needed h g y) ⊎ (needed h g y < 2) → 2 ≤ needed h g y
-    by (inl m) = m
-    by (inr m) = absurd (let e : needed h g y - 1 ≡ 0 = omega arith in let l' : y * (h - 1) < 0 * (g - 1) = rw e at l in omega arith)
 
 -- ---- U(Y - 1)
 pub since-le : (h g u y : ℕ) → 0 < h → 0 < g → y ≤ made h g u → since h g y ≤ u

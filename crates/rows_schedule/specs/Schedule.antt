@@ -1,4 +1,4 @@
--- The schedule (document 01, "The job" and "A row goes out"): how many output rows are made by how many crop rows. Crop height h, target
+-- The schedule (SCOPE, "The job" and "A row goes out"): how many output rows are made by how many crop rows. Crop height h, target
 -- height g, both at least 1. Assumes nothing.
 use Prim.Native.Nat.{ℕ, zero, suc, _+_, _-_, _*_, _/_, min}
 use mathlib.Core.Bool.{Bool, cond, _&&_}

@@ -1,4 +1,4 @@
-// How many output rows a number of crop rows makes (document 01, "The job"; libwebp: utils/rescaler_utils.c).
+// How many output rows a number of crop rows makes (SCOPE, "The job"; libwebp: utils/rescaler_utils.c).
 // Every function answers for all arguments. A crop height of 0, which no job has, gets what the definition says with the library's x / 0 = 0.
 ghost use mathlib.Core.Path.{_≡_};
 ghost use Prim.Native.Nat.{_-_};

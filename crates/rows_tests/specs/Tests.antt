@@ -1,4 +1,4 @@
--- When a row is turned away (document 01, "Why a call is turned away"): of a crop row that comes in, and of an output row that goes out. Assumes nothing.
+-- When a row is turned away (SCOPE, "Why a call is turned away"): of a crop row that comes in, and of an output row that goes out. Assumes nothing.
 use Prim.Native.Nat.{ℕ, _+_}
 use mathlib.Core.Bool.{not, _||_}
 use mathlib.Core.List.{List, [], _∷_}
@@ -23,7 +23,7 @@ importCauses n m bytes room =
 unfoldable pub importNumber : ℕ → ℕ → ℕ → ℕ → ℕ
 importNumber n m bytes room = first (importCauses n m bytes room)
 
--- output row y (document 01's Y) of a crop and a target of these sizes, u crop rows used: 1, 4, 5 and 9, ascending
+-- output row y (SCOPE's Y) of a crop and a target of these sizes, u crop rows used: 1, 4, 5 and 9, ascending
 abbrev pub scaleCauses : Dimensions → Dimensions → ℕ → ℕ → ℕ → ℕ → List Cause
 scaleCauses crop target u y outBytes workCount =
     wrongSize crop

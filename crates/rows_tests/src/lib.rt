@@ -1,4 +1,4 @@
-// The tests of a row that comes in and of one that goes out, in the order of their numbers (document 01, "Why a call is turned away").
+// The tests of a row that comes in and of one that goes out, in the order of their numbers (SCOPE, "Why a call is turned away").
 use pixels::Checked;
 use pixels::Dimensions;
 use pixels::PIXEL_LANES;
@@ -10,7 +10,7 @@ ghost use mathlib.Core.Path.{_≡_};
 ghost use Rattle.pixels.specs.Refusals.{checkedNumber};
 ghost use Rattle.rows_tests.specs.Tests.{importNumber, scaleNumber, valuesNumber};
 
-// What rows are scaled by: document 01's span, crop height h and target height g, and w, the values of a half.
+// What rows are scaled by: SCOPE's span, crop height h and target height g, and w, the values of a half.
 pub struct RowScale {
     pub span: u32,
     pub h: u32,

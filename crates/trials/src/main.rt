@@ -1,5 +1,5 @@
-// Runs the trials of document 01 that are not proved, the edges of fixed point, matte and restore, and one job offered in three ways. The file `stdout` holds
-// what document 01 says: numbers in hexadecimal; pixels too, byte after byte; a size as width and height.
+// Runs the trials of SCOPE that are not proved, the edges of fixed point, matte and restore, and one job offered in three ways. The file `stdout` holds
+// what SCOPE says: numbers in hexadecimal; pixels too, byte after byte; a size as width and height.
 use job::Job;
 use job::Offered;
 use job::Started;
@@ -8,6 +8,7 @@ use job_rules::Plan;
 use pixels::Dimensions;
 use pixels::PIXEL_LANES;
 use pixels::Rect;
+use pixels::Refusal;
 use pixels::Sized;
 use pixels_layout::PixelLayout;
 ghost use Prim.Native.Nat.{_≤_};
@@ -55,7 +56,7 @@ fn fractions() {
 // ---- sizes
 
 fn sizes() {
-    // "1 by 16384 scaled (2,0): 1": refused
+    // "1 by 16384 scaled (2,0): 1"
     scaled(1, 16384, 2, 0);
     scaled(3, 2, 0, 1);
 }
@@ -231,8 +232,8 @@ fn begin(source: Dimensions, target: Dimensions, work: &mut [u32]) -> Job {
     let started = job::start(source, PixelLayout::Rgba8, crop, target, work);
     match started {
         Started::Fresh { job } => job,
-        Started::Refused { why: _ } => {
-            io::write_all(1, b"refused\n");
+        Started::Refused { why } => {
+            refused_line(why);
             Job {
                 plan: Plan {
                     source: source,
@@ -275,9 +276,7 @@ fn scaled(w: u32, h: u32, width: u32, height: u32) {
             io::print_decimal(1, size.height as u64);
             io::write_all(1, b"\n");
         }
-        Sized::Refused(_) => {
-            io::write_all(1, b"refused\n");
-        }
+        Sized::Refused(why) => refused_line(why),
     }
 }
 
@@ -285,6 +284,12 @@ fn scaled(w: u32, h: u32, width: u32, height: u32) {
 
 fn word_line(n: u32) {
     io::print_hex(1, n as u64, 8);
+    io::write_all(1, b"\n");
+}
+
+fn refused_line(why: Refusal) {
+    io::write_all(1, b"refused ");
+    io::print_decimal(1, why.number() as u64);
     io::write_all(1, b"\n");
 }
 

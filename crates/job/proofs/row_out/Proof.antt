@@ -23,8 +23,8 @@ returns c =
     let a = c .before .before .before .before .before .before .before .before .before .before .before .args in
     let goes = c .before .before .before .before .before .before .before .before .before .before .before .pre in
     let made = c .before .before .before .before .before .take-row .ensures in
-    let flag = flag-out (a .j) (a .out .now) (a .work .now) goes _ (made .1 .0) in
     let row = row-out (a .j) (a .out .now) (a .work .now) goes _ (made .1 .1 .0) in
+    let flag = flag-out (a .j) (a .out .now) (a .work .now) goes _ (made .1 .0) in
     let work = work-out (a .j) (a .out .now) (a .work .now) goes _ (made .1 .1 .1) in
     (c .flag-after .ensures ∙ ap (λ (f : Bool). a .j .flag || f) flag, (row, work))
 

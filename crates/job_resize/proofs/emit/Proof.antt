@@ -43,7 +43,11 @@ same-length-2 : tie.Need-same-length-2
 same-length-2 c = search needs
 
 returns : tie.Need-returns
-returns c = emits ((c .before .before .before .before .before .before .before .before .before .before .before .before .args) .job) ((c .before .before .before .before .before .before .before .before .before .before .before .before .args) .out .now) ((c .before .before .before .before .before .before .before .before .before .before .before .before .args) .work .now) _ (end-less-start _ _) ((c .before .before .before .before .before .before .before .before .before .before .before .before .pre)) _ ((c .after-take) .ensures ∙ (c .before .before .before .before .before .take) .ensures .1 .0) _ ((c .before .before .before .before .before .take) .ensures .1 .1 .0) _ ((c .before .before .before .before .before .take) .ensures .1 .1 .1)
+returns c =
+    let a = c .before .before .before .before .before .before .before .before .before .before .before .before .args in
+    let room = c .before .before .before .before .before .before .before .before .before .before .before .before .pre in
+    let taken = c .before .before .before .before .before .take .ensures in
+    emits (a .job) (a .out .now) (a .work .now) _ (end-less-start _ _) room _ (c .after-take .ensures ∙ taken .1 .0) _ (taken .1 .1 .0) _ (taken .1 .1 .1)
 
 pub emit-spec : {M : Type 1} → statement M
 emit-spec =

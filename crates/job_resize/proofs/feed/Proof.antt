@@ -42,7 +42,12 @@ same-length : tie.Need-same-length
 same-length c = search needs
 
 returns-2 : tie.Need-returns-2
-returns-2 c = feed-offers ((c .before .before .before .before .before .before .before .before .before .before .before .before .args) .job) ((c .before .before .before .before .before .before .before .before .before .before .before .before .args) .pixels .now) ((c .before .before .before .before .before .before .before .before .before .before .before .before .args) .work .now) _ ((c .before .before .before .before .before .before .before .before .before .ready) .ensures) ((c .before .before .before .before .before .before .before .before .if1) .left) _ (rest-all _ ((c .before .before .before .before .before .before .before .before .before .before .before .before .args) .pixels .now)) _ ((c .after-offer) .ensures ∙ (c .before .before .before .offer) .ensures .1 .1 .0) _ ((c .before .before .before .offer) .ensures .1 .1 .1)
+returns-2 c =
+    let a = c .before .before .before .before .before .before .before .before .before .before .before .before .args in
+    let ready = c .before .before .before .before .before .before .before .before .before .ready .ensures in
+    let offered = c .before .before .before .offer .ensures in
+    let rest = rest-all _ (a .pixels .now) in
+    feed-offers (a .job) (a .pixels .now) (a .work .now) _ ready (c .before .before .before .before .before .before .before .before .if1 .left) _ rest _ (c .after-offer .ensures ∙ offered .1 .1 .0) _ (offered .1 .1 .1)
 
 pub feed-spec : {M : Type 1} → statement M
 feed-spec =

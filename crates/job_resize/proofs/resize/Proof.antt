@@ -12,8 +12,10 @@ enum-known-checked : tie.Need-enum-known-checked
 enum-known-checked c = search needs
 
 returns : tie.Need-returns
-returns c = let a = (c .before .before .before .before .before .before .before .args) in
-    resize-refused (a .source) (a .layout) (a .target) (a .pixels .now) (a .out .now) (a .work .now) ((c .before .checked) .given .0 .0) (sym (rw ((c .before .checked) .given .1) at ((c .before .before .before .check-resize) .ensures)))
+returns c =
+    let a = c .before .before .before .before .before .before .before .args in
+    let told = sym (rw (c .before .checked .given .1) at (c .before .before .before .check-resize .ensures)) in
+    resize-refused (a .source) (a .layout) (a .target) (a .pixels .now) (a .out .now) (a .work .now) (c .before .checked .given .0 .0) told
 
 enum-told : tie.Need-enum-told
 enum-told c = search needs
@@ -32,18 +34,22 @@ enum-known-started-2 c = search needs
 
 drive-requires : tie.Need-drive-requires
 drive-requires c κs =
-    let a = (c .before .before .before .before .before .before .before .before .before .before .before .before .before .before .before .before .args) in
-    let z = sym (rw ((c .before .before .before .before .before .before .before .before .before .before .enum-told) .given .1) at ((c .before .before .before .before .before .before .before .before .before .before .before .before .check-resize) .ensures)) in
-    job-asked (a .source) (a .layout) (a .target) (a .pixels .now) (a .out .now) (a .work .now) z _ ((c .before .before .before .before .before .before .before .before .before .new) .ensures) _ _ ((c .before .before .before .before .before .before .before .start) .ensures .1 .0) ((c .before .before .before .started2) .given .1) _ ((c .before .before .before .before .before .before .before .start) .ensures .1 .1)
+    let started = c .before .before .before .before .before .before .before .start .ensures in
+    let full = c .before .before .before .before .before .before .before .before .before .new .ensures in
+    let z = sym (rw (c .before .before .before .before .before .before .before .before .before .before .enum-told .given .1) at (c .before .before .before .before .before .before .before .before .before .before .before .before .check-resize .ensures)) in
+    let a = c .before .before .before .before .before .before .before .before .before .before .before .before .before .before .before .before .args in
+    job-asked (a .source) (a .layout) (a .target) (a .pixels .now) (a .out .now) (a .work .now) z _ full _ _ (started .1 .0) (c .before .before .before .started2 .given .1) _ (started .1 .1)
 
 same-length : tie.Need-same-length
 same-length c = search needs
 
 returns-2 : tie.Need-returns-2
 returns-2 c =
-    let a = (c .before .before .before .before .before .before .before .before .before .before .before .before .before .before .args) in
-    let z = sym (rw ((c .before .before .before .before .before .before .before .before .enum-told) .given .1) at ((c .before .before .before .before .before .before .before .before .before .before .check-resize) .ensures)) in
-    absurd (never (a .source) (a .layout) (a .target) (a .pixels .now) (a .out .now) (a .work .now) z _ ((c .before .before .before .before .before .before .before .new) .ensures) _ _ ((c .before .before .before .before .before .start) .ensures .0) ((c .before .started) .given .1))
+    let started = c .before .before .before .before .before .start .ensures in
+    let full = c .before .before .before .before .before .before .before .new .ensures in
+    let z = sym (rw (c .before .before .before .before .before .before .before .before .enum-told .given .1) at (c .before .before .before .before .before .before .before .before .before .before .check-resize .ensures)) in
+    let a = c .before .before .before .before .before .before .before .before .before .before .before .before .before .before .args in
+    absurd (never (a .source) (a .layout) (a .target) (a .pixels .now) (a .out .now) (a .work .now) z _ full _ _ (started .0) (c .before .started .given .1))
 
 same-length-2 : tie.Need-same-length-2
 same-length-2 c = search needs
@@ -53,9 +59,13 @@ same-length-3 c = search needs
 
 returns-3 : tie.Need-returns-3
 returns-3 c =
-    let a = (c .before .before .before .before .before .before .before .before .before .before .before .before .before .before .before .before .before .before .before .before .before .args) in
-    let z = sym (rw ((c .before .before .before .before .before .before .before .before .before .before .before .before .before .before .before .enum-told) .given .1) at ((c .before .before .before .before .before .before .before .before .before .before .before .before .before .before .before .before .before .check-resize) .ensures)) in
-    finishes (a .source) (a .layout) (a .target) (a .pixels .now) (a .out .now) (a .work .now) z _ ((c .before .before .before .before .before .before .before .before .before .before .before .before .before .before .new) .ensures) _ _ ((c .before .before .before .before .before .before .before .before .before .before .before .before .start) .ensures .1 .0) ((c .before .before .before .before .before .before .before .before .started2) .given .1) _ ((c .before .before .before .before .before .before .before .before .before .before .before .before .start) .ensures .1 .1) _ _ _ ((c .before .before .before .before .drive) .ensures)
+    let d = c .before .before .before .before in
+    let started = d .before .before .before .before .before .before .before .before .start .ensures in
+    let full = d .before .before .before .before .before .before .before .before .before .before .new .ensures in
+    let z = sym (rw (d .before .before .before .before .before .before .before .before .before .before .before .enum-told .given .1) at (d .before .before .before .before .before .before .before .before .before .before .before .before .before .check-resize .ensures)) in
+    let a = d .before .before .before .before .before .before .before .before .before .before .before .before .before .before .before .before .before .args in
+    let fresh = d .before .before .before .before .started2 .given .1 in
+    finishes (a .source) (a .layout) (a .target) (a .pixels .now) (a .out .now) (a .work .now) z _ full _ _ (started .1 .0) fresh _ (started .1 .1) _ _ _ (d .drive .ensures)
 
 pub resize-spec : {M : Type 1} → statement M
 resize-spec =

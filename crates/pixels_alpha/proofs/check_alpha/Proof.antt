@@ -1,7 +1,7 @@
 -- A refusal is handed on with its number; else the plane's length decides. Assumes nothing.
 use Prim.Native.Nat.{_*_}
 use mathlib.Core.Path.{sym, _∙_}
-use mathlib.Core.List.{List, [], _∷_}
+use mathlib.Core.List.{[], _∷_}
 use native.Mathlib.Omega.{arith}
 use borrow.Author.Needs.{needs}
 use Rattle.pixels.specs.declared.Refusal.the-variants.{PixelBufferMismatch}

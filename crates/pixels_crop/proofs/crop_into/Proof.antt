@@ -38,7 +38,11 @@ add-at : tie.Need-add-at Inv-loop μ-loop
 add-at c = search needs
 
 mul-at : tie.Need-mul-at Inv-loop μ-loop
-mul-at c = let a = c .before .before .before .before .before .before .before .args in let p = c .before .before .before .before .before .before .before .pre in omega (arith, row-fits pixelLanes (a .pixels .now) (a .source .width) (a .source .height) (a .rect .y + c .before .before .before .loop .i) (p .1) (omega arith))
+mul-at c =
+    let l = c .before .before .before in
+    let b = l .before .before .before .before in
+    let a = b .args in
+    omega (arith, row-fits pixelLanes (a .pixels .now) (a .source .width) (a .source .height) (a .rect .y + l .loop .i) (b .pre .1) (omega (arith, b .pre .0)))
 
 cast-to : tie.Need-cast-to Inv-loop μ-loop
 cast-to c = search needs
@@ -47,10 +51,20 @@ mul-to : tie.Need-mul-to Inv-loop μ-loop
 mul-to c = omega arith
 
 mul-to-2 : tie.Need-mul-to-2 Inv-loop μ-loop
-mul-to-2 c = let a = c .before .before .before .before .before .before .before .before .args in let p = c .before .before .before .before .before .before .before .before .pre in let h : c .before .before .before .before .loop .i ≤ a .rect .height = omega arith in omega (arith, mul-le-mul-left (4 * a .rect .width) h)
+mul-to-2 c =
+    let l = c .before .before .before .before in
+    let b = l .before .before .before .before in
+    let a = b .args in
+    let p = b .pre in
+    let h : l .loop .i ≤ a .rect .height = omega arith in
+    omega (arith, mul-le-mul-left (4 * a .rect .width) h)
 
 add-window : tie.Need-add-window Inv-loop μ-loop
-add-window c = let a = c .before .before .before .before .before .before .before .before .before .args in let p = c .before .before .before .before .before .before .before .before .before .pre in omega (arith, row-fits pixelLanes (a .pixels .now) (a .source .width) (a .source .height) (a .rect .y + c .before .before .before .before .before .loop .i) (p .1) (omega arith))
+add-window c =
+    let l = c .before .before .before .before .before in
+    let b = l .before .before .before .before in
+    let a = b .args in
+    omega (arith, row-fits pixelLanes (a .pixels .now) (a .source .width) (a .source .height) (a .rect .y + l .loop .i) (b .pre .1) (omega (arith, b .pre .0)))
 
 sub-window : tie.Need-sub-window Inv-loop μ-loop
 sub-window c = search needs
@@ -59,7 +73,11 @@ part-window-start : tie.Need-part-window-start Inv-loop μ-loop
 part-window-start c = search needs
 
 part-window-end : tie.Need-part-window-end Inv-loop μ-loop
-part-window-end c = let a = c .before .before .before .before .before .before .before .before .before .args in let p = c .before .before .before .before .before .before .before .before .before .pre in omega (arith, row-fits pixelLanes (a .pixels .now) (a .source .width) (a .source .height) (a .rect .y + c .before .before .before .before .before .loop .i) (p .1) (omega arith))
+part-window-end c =
+    let l = c .before .before .before .before .before in
+    let b = l .before .before .before .before in
+    let a = b .args in
+    omega (arith, row-fits pixelLanes (a .pixels .now) (a .source .width) (a .source .height) (a .rect .y + l .loop .i) (b .pre .1) (omega (arith, b .pre .0)))
 
 window-requires : tie.Need-window-requires Inv-loop μ-loop
 window-requires c κs = search needs
@@ -84,8 +102,11 @@ loop-again c = let a = c .before .before .before .before .before .before .before
     let l = c .before .before .before .before .before .before .before .before .before .before .loop in
     let p = c .before .before .before .before .before .before .before .before .before .before .before .before .before .before .pre in
     let i = l .i in
-    let s : c .before .before .before .window .result .now ≡ windowOf pixelLanes (pictureRow pixelLanes (a .pixels .now) (a .source .width) (a .rect .y + i)) (a .rect .x) (a .rect .width) = c .before .before .before .window .ensures ∙ ap (λ r. windowOf pixelLanes r (a .rect .x) (a .rect .width)) (row-part pixelLanes (a .pixels .now) (a .source .width) (a .rect .y + i)) in
-    (omega arith, c .before .before .copy-at .kept .0 ∙ l .inv .1, c .before .before .copy-at .ensures ∙ rw s (rows-turn (a .source) (a .rect) (a .pixels .now) (p .0) (p .1) (l .out) (a .out .now) i (omega arith) (l .inv .2)))
+    let row = a .rect .y + i in
+    let s : c .before .before .before .window .result .now ≡ windowOf pixelLanes (pictureRow pixelLanes (a .pixels .now) (a .source .width) row) (a .rect .x) (a .rect .width) =
+    c .before .before .before .window .ensures ∙ ap (λ r. windowOf pixelLanes r (a .rect .x) (a .rect .width)) (row-part pixelLanes (a .pixels .now) (a .source .width) row) in
+    let copied = c .before .before .copy-at in
+    (omega arith, copied .kept .0 ∙ l .inv .1, copied .ensures ∙ rw s (rows-turn (a .source) (a .rect) (a .pixels .now) (p .0) (p .1) (l .out) (a .out .now) i (omega arith) (l .inv .2)))
 
 same-length : tie.Need-same-length Inv-loop μ-loop
 same-length c = c .before .loop .inv .1

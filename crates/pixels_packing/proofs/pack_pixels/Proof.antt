@@ -25,7 +25,11 @@ same-length c = search needs
 
 returns-3 : tie.Need-returns-3
 unfolding packOut
-returns-3 c = let a = c .before .before .before .before .before .before .before .before .args in buffer-written _ _ _ (pack-passes (length (a .argb .now)) (length (a .out .now)) (omega (arith, c .before .before .before .before .before .if1 .left, c .before .before .before .before .if2 .left))) (c .before .before .pack-into .ensures)
+returns-3 c =
+    let b = c .before .before .before .before in
+    let a = b .before .before .before .before .args in
+    let fits = pack-passes (length (a .argb .now)) (length (a .out .now)) (omega (arith, b .before .if1 .left, b .if2 .left)) in
+    buffer-written _ _ _ fits (c .before .before .pack-into .ensures)
 
 pub pack-pixels-spec : {M : Type 1} → statement M
 pack-pixels-spec = tie.close (tie.spec returns returns-2 pack-into-requires same-length returns-3)

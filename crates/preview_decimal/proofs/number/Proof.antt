@@ -49,7 +49,11 @@ loop-less : tie.Need-loop-less Inv-loop μ-loop
 loop-less c = search needs
 
 loop-again : tie.Need-loop-again Inv-loop μ-loop
-loop-again c = rw (c .before .digit-of .ensures) (read-turn (c .before .before .before .before .before .before .loop .inv) (c .before .before .before .before .before .loop-test .taken) (sym (c .before .before .before .is-digit .ensures) ∙ not-false _ (c .before .before .if2 .left)) (omega (arith, c .before .digit-of .ensures, c .if3 .left)))
+loop-again c =
+    let b = c .before .before .before in
+    let digit = sym (b .is-digit .ensures) ∙ not-false _ (c .before .before .if2 .left) in
+    let value = c .before .digit-of .ensures in
+    rw value (read-turn (b .before .before .before .loop .inv) (b .before .before .loop-test .taken) digit (omega (arith, value, c .if3 .left)))
 
 returns-4 : tie.Need-returns-4 Inv-loop μ-loop
 returns-4 c = read-done (c .before .loop .inv) (c .loop-test .left) (c .before .before .if1 .left)

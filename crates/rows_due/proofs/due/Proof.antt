@@ -4,7 +4,7 @@ use Rattle.rows_due.specs.Due.{within}
 use Rattle.arithmetic.proofs.Products.{most}
 use native.Mathlib.Omega.{arith}
 use native.Mathlib.Numerals.{add-one}
-use Prim.Native.Nat.{ℕ, _*_, _-_}
+use Prim.Native.Nat.{ℕ, _*_}
 use mathlib.Core.Path.{sym, ap, _∙_}
 use borrow.Author.Needs.{needs}
 use Rattle.rows_due.proofs.due.Statement.{statement}

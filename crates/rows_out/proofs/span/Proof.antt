@@ -1,4 +1,4 @@
--- `span` meets its contract: the two cases of document 01. Assumes nothing.
+-- `span` meets its contract: the two cases of SCOPE. Assumes nothing.
 use mathlib.Core.Path.{sym}
 use Rattle.arithmetic.proofs.Weights.{span-shrink, span-grow}
 use borrow.Author.Needs.{needs}

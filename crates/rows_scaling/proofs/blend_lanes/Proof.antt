@@ -61,7 +61,11 @@ loop-less : tie.Need-loop-less Inv-loop μ-loop
 loop-less c = search needs
 
 loop-again : tie.Need-loop-again Inv-loop μ-loop
-loop-again c = (c .before .before .before .before .before .before .loop .inv .0, grow-turn (c .before .before .before .before .before .before .loop .inv .1) (c .before .before .blended .result) (c .before .mult-fix .result) (c .byte-of .result) (c .before .before .before .before .before .loop-test .taken) (c .before .before .blended .ensures) (c .before .mult-fix .ensures) (c .byte-of .ensures))
+loop-again c =
+    let l = c .before .before .before .before .before .before .loop .inv in
+    let j = c .before .before .blended in
+    let v = c .before .mult-fix in
+    (l .0, grow-turn (l .1) (j .result) (v .result) (c .byte-of .result) (c .before .before .before .before .before .loop-test .taken) (j .ensures) (v .ensures) (c .byte-of .ensures))
 
 same-length : tie.Need-same-length Inv-loop μ-loop
 same-length c = same (c .before .loop .inv .1 .bytes)

@@ -1,4 +1,4 @@
--- `grow_row` meets its contract: d is in its range, so it fits; each half lies in the work rows, and the loops' b and factor are document 01's. Assumes nothing.
+-- `grow_row` meets its contract: d is in its range, so it fits; each half lies in the work rows, and the loops' b and factor are SCOPE's. Assumes nothing.
 use Rattle.rows_scaling.proofs.Factors.{factor-half, grow-room, grow-out, level-out}
 use Rattle.rows_scaling.proofs.RestRange.{up-some, up-low, up-high}
 use Rattle.rows_scaling.specs.Scaling.{scaleIn}
@@ -60,32 +60,53 @@ half-of-requires-2 : tie.Need-half-of-requires-2
 half-of-requires-2 c κs = search needs
 
 level-lanes-requires : tie.Need-level-lanes-requires
-level-lanes-requires c κs = let u = c .before .before .before .before .before .before .before .before .before .before .before .before .args .used in (
-  grow-room (u - 1) (u - 1) (c .before .before .before .before .before .before .before .before .before .before .before .before .pre .1 .1) (c .before .before .before .before .half-of .ensures) (c .before .before .before .before .half-of .ensures),
-  λ t. rw (c .before .before .before .before .before .frac2 .ensures) (factor-half (c .before .before .before .before .before .before .before .before .before .before .before .before .args .s .span) (eqb-false _ _ (not-true _ t))),
-)
+level-lanes-requires c κs =
+    let b = c .before .before .before .before .before .before .before .before .before .before .before .before in
+    let u = b .args .used in
+    let new = c .before .before .before .before .half-of .ensures in
+    let factor = c .before .before .before .before .before .frac2 .ensures in (
+      grow-room (u - 1) (u - 1) (b .pre .1 .1) new new,
+      λ t. rw factor (factor-half (b .args .s .span) (eqb-false _ _ (not-true _ t))),
+    )
 
 same-length : tie.Need-same-length
 same-length c = search needs
 
 returns : tie.Need-returns
-returns c = let a = c .before .before .before .before .before .before .before .before .before .before .before .before .before .before .before .args in
-    level-out (scaleIn (a .s)) (a .used) (a .row) (a .work .now) (c .before .before .before .before .before .before .before .before .before .before .before .before .before .before .before .pre .1 .0) (c .before .before .before .before .before .before .before .before .before .frac .ensures) (c .before .before .before .before .before .before .before .before .frac2 .ensures)
-    (c .before .before .before .before .before .before .before .half-of .ensures) (c .before .before .before .before .before .before .half-of2 .ensures) (c .before .before .before .before .if1 .taken) (c .before .before .level-lanes .ensures)
+returns c =
+    let b = c .before .before .before .before .before .before .before .before .before .before .before .before .before .before .before in
+    let a = b .args in
+    let up = b .pre .1 .0 in
+    let rest = c .before .before .before .before .before .before .before .before .before .frac .ensures in
+    let factor = c .before .before .before .before .before .before .before .before .frac2 .ensures in
+    let new = c .before .before .before .before .before .before .before .half-of .ensures in
+    let old = c .before .before .before .before .before .before .half-of2 .ensures in
+    level-out (scaleIn (a .s)) (a .used) (a .row) (a .work .now) up rest factor new old (c .before .before .before .before .if1 .taken) (c .before .before .level-lanes .ensures)
 
 blend-lanes-requires : tie.Need-blend-lanes-requires
-blend-lanes-requires c κs = let u = c .before .before .before .before .before .before .before .before .before .before .before .before .args .used in (
-  grow-room (u - 1) u (c .before .before .before .before .before .before .before .before .before .before .before .before .pre .1 .1) (c .before .before .before .before .half-of .ensures) (c .before .before .before .half-of2 .ensures),
-  (omega (arith, c .before .if1 .left), λ t. rw (c .before .before .before .before .before .frac2 .ensures) (factor-half (c .before .before .before .before .before .before .before .before .before .before .before .before .args .s .span) (eqb-false _ _ (not-true _ t)))),
-)
+blend-lanes-requires c κs =
+    let b = c .before .before .before .before .before .before .before .before .before .before .before .before in
+    let u = b .args .used in
+    let new = c .before .before .before .before .half-of .ensures in
+    let old = c .before .before .before .half-of2 .ensures in
+    let factor = c .before .before .before .before .before .frac2 .ensures in (
+      grow-room (u - 1) u (b .pre .1 .1) new old,
+      (omega (arith, c .before .if1 .left), λ t. rw factor (factor-half (b .args .s .span) (eqb-false _ _ (not-true _ t)))),
+    )
 
 same-length-2 : tie.Need-same-length-2
 same-length-2 c = search needs
 
 returns-2 : tie.Need-returns-2
-returns-2 c = let a = c .before .before .before .before .before .before .before .before .before .before .before .before .before .before .before .args in
-    grow-out (scaleIn (a .s)) (a .used) (a .row) (a .work .now) (c .before .before .before .before .before .before .before .before .before .before .before .before .before .before .before .pre .1 .0) (c .before .before .before .before .before .before .before .before .before .frac .ensures) (c .before .before .before .before .before .before .before .before .frac2 .ensures)
-    (c .before .before .before .before .before .before .before .half-of .ensures) (c .before .before .before .before .before .before .half-of2 .ensures) (c .before .before .blend-lanes .ensures)
+returns-2 c =
+    let b = c .before .before .before .before .before .before .before .before .before .before .before .before .before .before .before in
+    let a = b .args in
+    let up = b .pre .1 .0 in
+    let rest = c .before .before .before .before .before .before .before .before .before .frac .ensures in
+    let factor = c .before .before .before .before .before .before .before .before .frac2 .ensures in
+    let new = c .before .before .before .before .before .before .before .half-of .ensures in
+    let old = c .before .before .before .before .before .before .half-of2 .ensures in
+    grow-out (scaleIn (a .s)) (a .used) (a .row) (a .work .now) up rest factor new old (c .before .before .blend-lanes .ensures)
 
 pub grow-row-spec : {M : Type 1} → statement M
 grow-row-spec =

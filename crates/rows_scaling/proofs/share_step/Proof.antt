@@ -1,4 +1,4 @@
--- d is in its range, so it fits; the step is document 01's. Assumes nothing.
+-- d is in its range, so it fits; the step is SCOPE's. Assumes nothing.
 use native.Mathlib.Omega.{arith}
 use borrow.Author.Needs.{needs}
 use Rattle.arithmetic.proofs.Products.{most}

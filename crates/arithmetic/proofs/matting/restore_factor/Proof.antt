@@ -1,4 +1,4 @@
--- `restore_factor` meets its contract: the quotient of document 01. Assumes nothing.
+-- `restore_factor` meets its contract: the quotient of SCOPE. Assumes nothing.
 use borrow.Author.Needs.{needs}
 use Rattle.arithmetic.specs.Matte.{restoreFactor}
 use Rattle.arithmetic.proofs.matting.restore_factor.Statement.{statement}

@@ -202,7 +202,8 @@ module _ {M : Type 1} (𝓤 : URA M) (H : Heap 𝓤) (A : Atoms 𝓤) (W : Given
         peeks ! C.the-row (Is C.the-row) (shows 𝓤 H A C.the-row) r (u ∷ []) (λ is.
         let tC = EL.lawful C.the-type C′.the-laws 𝓤 H A W tt .typed r _ is .0 in
         land ! (from ! (stop !)) (init ! 7 refl tC) $
-        assigns ! (agg ! (and-then ! (load ! (from ! (stop !)) (look ! 13 refl)) (and-then ! (load ! (from ! (stop !)) (look ! 11 refl)) (and-then ! (load ! (from ! (stop !)) (look ! 9 refl)) (no-more !))))) (from ! (stop !)) (init ! 5 refl (of-its-type erased dims layout x, (tD .1, (tL .1, (tS .1, tt))))) $
+        assigns ! (agg ! (and-then ! (load ! (from ! (stop !)) (look ! 13 refl)) (and-then ! (load ! (from ! (stop !)) (look ! 11 refl)) (and-then ! (load ! (from ! (stop !)) (look ! 9 refl)) (no-more !))))) (from ! (stop !))
+        (init ! 5 refl (of-its-type erased dims layout x, (tD .1, (tL .1, (tS .1, tt))))) $
         assigns ! (agg ! (and-then ! (load ! (from ! (stop !)) (look ! 7 refl)) (and-then ! (load ! (from ! (stop !)) (look ! 5 refl)) (no-more !)))) (from ! (stop !)) (init ! 15 refl (answer-of-its-type u dims layout x (tC .0), (tC .1, ((tD .1, (tL .1, (tS .1, tt))), tt)))) $
         returns ! (look ! 15 refl) $ forget ! 5 refl $ forget ! 7 refl $ forget ! 9 refl $ forget ! 11 refl $ forget ! 13 refl $ forget ! 15 refl $
         move ! (15 ∷ 16 ∷ []) $ free1 ! $ move ! (13 ∷ 14 ∷ []) $ free1 ! $ move ! (11 ∷ 12 ∷ []) $ free1 ! $ move ! (9 ∷ 10 ∷ []) $ free1 ! $ move ! (7 ∷ 8 ∷ []) $ free1 ! $ move ! (5 ∷ 6 ∷ []) $ free1 ! $ free0 ! $ by ! (exits r u e isD isL)))))))))))

@@ -27,13 +27,20 @@ bad-side-requires : tie.Need-bad-side-requires
 bad-side-requires c κs = search needs
 
 returns-2 : tie.Need-returns-2
-returns-2 c = sized-refused InvalidDimensions _ _ (scaled-wide _ _ _ (sym (c .before .before .before .before .before .bad-size .ensures) ∙ c .before .before .before .before .if1 .left) _ (c .before .before .before .derived .ensures) (sym (c .before .bad-side .ensures) ∙ c .if2 .taken))
+returns-2 c =
+    let w = c .before .before .before in
+    let source = sym (w .before .before .bad-size .ensures) ∙ w .before .if1 .left in
+    sized-refused InvalidDimensions _ _ (scaled-wide _ _ _ source _ (w .derived .ensures) (sym (c .before .bad-side .ensures) ∙ c .if2 .taken))
 
 bad-side-requires-2 : tie.Need-bad-side-requires-2
 bad-side-requires-2 c κs = search needs
 
 returns-3 : tie.Need-returns-3
-returns-3 c = sized-refused InvalidDimensions _ _ (scaled-high _ _ _ (sym (c .before .before .before .before .before .before .before .bad-size .ensures) ∙ c .before .before .before .before .before .before .if1 .left) _ (c .before .before .before .before .before .derived .ensures) _ (c .before .before .before .before .derived2 .ensures) (sym (c .before .bad-side2 .ensures) ∙ c .if3 .taken))
+returns-3 c =
+    let h = c .before .before .before .before in
+    let source = sym (h .before .before .before .bad-size .ensures) ∙ h .before .before .if1 .left in
+    sized-refused InvalidDimensions _ _
+    (scaled-high _ _ _ source _ (h .before .derived .ensures) _ (h .derived2 .ensures) (sym (c .before .bad-side2 .ensures) ∙ c .if3 .taken))
 
 cast-t13 : tie.Need-cast-t13
 cast-t13 c = omega (arith, side-of (c .before .before .before .before .before .derived .result) (sym (c .before .before .before .bad-side .ensures) ∙ c .before .before .if2 .left))
@@ -42,7 +49,11 @@ cast-t14 : tie.Need-cast-t14
 cast-t14 c = omega (arith, side-of (c .before .before .before .before .derived2 .result) (sym (c .before .bad-side2 .ensures) ∙ c .if3 .left))
 
 returns-4 : tie.Need-returns-4
-returns-4 c = scaled-good _ _ _ (sym (c .before .before .before .before .before .before .before .bad-size .ensures) ∙ c .before .before .before .before .before .before .if1 .left) _ (c .before .before .before .before .before .derived .ensures) _ (c .before .before .before .before .derived2 .ensures) (sym (c .before .before .before .bad-side .ensures) ∙ c .before .before .if2 .left) (sym (c .before .bad-side2 .ensures) ∙ c .if3 .left)
+returns-4 c =
+    let h = c .before .before .before .before in
+    let source = sym (h .before .before .before .bad-size .ensures) ∙ h .before .before .if1 .left in
+    scaled-good _ _ _ source _ (h .before .derived .ensures) _ (h .derived2 .ensures)
+    (sym (c .before .before .before .bad-side .ensures) ∙ c .before .before .if2 .left) (sym (c .before .bad-side2 .ensures) ∙ c .if3 .left)
 
 pub scaled-spec : {M : Type 1} → statement M
 scaled-spec =

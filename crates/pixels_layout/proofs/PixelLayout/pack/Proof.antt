@@ -30,7 +30,12 @@ lane-requires-4 : tie.Need-lane-requires-4
 lane-requires-4 c κs = search needs
 
 returns : tie.Need-returns
-returns c = pack-from _ _ (c .before .before .before .before .before .before .before .place .ensures .0) (c .before .before .before .before .before .place2 .ensures .0) (c .before .before .before .place3 .ensures .0) (c .before .place4 .ensures .0) (c .before .before .before .before .before .before .lane .ensures) (c .before .before .before .before .lane2 .ensures) (c .before .before .lane3 .ensures) (c .lane4 .ensures)
+returns c =
+    let third = c .before .before in
+    let second = third .before .before in
+    let first = second .before .before in
+    pack-from _ _ (first .before .place .ensures .0) (second .before .place2 .ensures .0) (third .before .place3 .ensures .0) (c .before .place4 .ensures .0)
+    (first .lane .ensures) (second .lane2 .ensures) (third .lane3 .ensures) (c .lane4 .ensures)
 
 pub pack-spec : {M : Type 1} → statement M
 pack-spec =

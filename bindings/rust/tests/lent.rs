@@ -1,0 +1,39 @@
+//! What needs no heap, without the feature `std` too: jobs and pictures over lent buffers.
+
+use jonquilsaw::{Dimensions, Error, ImageRef, Job, PixelLayout, Rect, apply_alpha_plane};
+
+const PICTURE: [u8; 24] = [10, 20, 30, 255, 40, 50, 60, 255, 70, 80, 90, 255, 15, 25, 35, 255, 45, 55, 65, 255, 75, 85, 95, 255];
+
+#[test]
+fn a_job_and_a_whole_picture_give_the_same_bytes() -> Result<(), Error> {
+    let (source, target) = (Dimensions::new(2, 3)?, Dimensions::new(3, 2)?);
+    let (mut whole, mut rows, mut work) = ([7; 24], [9; 24], [0; 24]);
+    assert_eq!(ImageRef::new(source, PixelLayout::Bgra8, &PICTURE)?.resize_into(target, &mut whole, &mut work), Ok(false));
+
+    let mut job = Job::start(source, PixelLayout::Bgra8, Rect::of(source), target, &mut work)?;
+    for row in PICTURE.chunks_exact(source.row_len()) {
+        assert_eq!(job.offer(row, &mut work), Ok(1));
+        let at = job.taken() as usize * target.row_len();
+        match job.take(&mut rows[at..at + target.row_len()], &mut work) {
+            Ok(()) => assert_eq!(job.take(&mut [0; 12], &mut work), Err(Error::NoneReady)),
+            Err(why) => assert_eq!(why, Error::NoneReady),
+        }
+    }
+    assert!(job.is_done());
+    assert_eq!(rows, whole);
+    Ok(())
+}
+
+#[test]
+fn a_crop_and_a_plane_in_place() -> Result<(), Error> {
+    let size = Dimensions::new(2, 3)?;
+    let mut pixels = PICTURE;
+    assert_eq!(apply_alpha_plane(size, PixelLayout::Rgba8, &mut pixels, &[1, 2, 3]), Err(Error::PixelBufferMismatch { expected: 6, found: 3 }));
+    assert_eq!(apply_alpha_plane(size, PixelLayout::Rgba8, &mut pixels[..8], &[1; 6]), Err(Error::PixelBufferMismatch { expected: 24, found: 8 }));
+    assert_eq!(pixels, PICTURE);
+    assert_eq!(apply_alpha_plane(size, PixelLayout::Rgba8, &mut pixels, &[255, 255, 255, 254, 255, 255]), Ok(true));
+    let mut window = [0; 4];
+    assert_eq!(ImageRef::new(size, PixelLayout::Rgba8, &pixels)?.crop_into(Rect::new(1, 1, 1, 1), &mut window), Ok(true));
+    assert_eq!(window, [15, 25, 35, 254]);
+    Ok(())
+}
