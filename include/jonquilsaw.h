@@ -8,8 +8,9 @@
  * A slice is a pointer and a count of its elements. The pointer must be that of live memory for so
  * many elements, aligned for their type; with a count of 0 it may be null. Two slices of one call
  * must not overlap unless both are const. Pixels are 4 bytes each, rows stand one after another
- * without gaps, and colours are not premultiplied by alpha. Nothing is kept between calls but what
- * stands in the record and the work values, so calls with other memory may run at the same time.
+ * without gaps, and colours are not premultiplied by alpha. A plane has 1 to 4 lanes, a byte each,
+ * side by side, which are scaled as they are. Nothing is kept between calls but what stands in the
+ * record and the work values, so calls with other memory may run at the same time.
  *
  * First come the proved functions, which libjonquilsaw.a has; then functions of the header's own
  * over them, in which a size, a crop and a job have types. */
@@ -31,15 +32,23 @@ extern "C" {
 /* The largest side of a picture. */
 #define JONQUILSAW_MAX_SIDE 16384u
 
+/* The lanes of a picture's pixel, and the most that a plane has. */
+#define JONQUILSAW_PIXEL_LANES 4u
+#define JONQUILSAW_MAX_LANES 4u
+
 /* How many words a record takes. Words after them are never read or written. In their order:
  * source width and height; layout; crop x, y, width and height; target width and height; source
- * rows accepted; preview rows taken; 1 if a row taken had an alpha byte other than 255, else 0.
- * The caller may read them, copy them and fill them: a record that keeps the rules counts,
- * whoever filled it. */
-#define JONQUILSAW_RECORD_WORDS 12u
+ * rows accepted; preview rows taken; 1 if a row taken had an alpha byte other than 255, else 0;
+ * the kind, 0 for a picture and 1 for a plane; the lanes, 4 for a picture. A plane's layout is
+ * JONQUILSAW_RGBA8 and its flag 0. The caller may read them, copy them and fill them: a record
+ * that keeps the rules counts, whoever filled it. */
+#define JONQUILSAW_RECORD_WORDS 14u
 
-/* How many work values a job to a target of this width takes: two halves of a row. */
-#define JONQUILSAW_WORK_WORDS(target_width) ((size_t)8 * (target_width))
+/* How many work values a job to a target of this width takes, of so many lanes: two halves of a
+ * row. The first form is for a picture. */
+#define JONQUILSAW_WORK_WORDS(target_width)                                                        \
+    JONQUILSAW_WORK_WORDS_OF(JONQUILSAW_PIXEL_LANES, target_width)
+#define JONQUILSAW_WORK_WORDS_OF(lanes, target_width) ((size_t)2 * (lanes) * (target_width))
 
 /* The order of a pixel's bytes. */
 typedef enum jonquilsaw_layout {
@@ -47,6 +56,14 @@ typedef enum jonquilsaw_layout {
     JONQUILSAW_ARGB8 = 1,
     JONQUILSAW_BGRA8 = 2
 } jonquilsaw_layout;
+
+/* What a job scales. */
+typedef enum jonquilsaw_kind {
+    /* pixels, matted by their alpha as they come in and restored as they go out */
+    JONQUILSAW_PICTURE = 0,
+    /* lanes, scaled as they are */
+    JONQUILSAW_PLANE = 1
+} jonquilsaw_kind;
 
 /* The numbers returned. */
 typedef enum jonquilsaw_number {
@@ -60,10 +77,11 @@ typedef enum jonquilsaw_number {
     JONQUILSAW_PIXEL_BUFFER_MISMATCH = 3,
     /* an output buffer not of the exact length */
     JONQUILSAW_OUTPUT_LENGTH = 4,
-    /* fewer than 8 x target width work values */
+    /* fewer than 2 x lanes x target width work values */
     JONQUILSAW_WORK_LENGTH = 5,
-    /* a record that is none: too few words, a layout or flag word that is none, sizes or counts that
-     * no job can have */
+    /* a record that is none: too few words; a layout, flag or kind word that is none; sizes or counts
+     * that no job can have; a picture of other than 4 lanes; a plane of other than 1 to 4 lanes, with
+     * the flag set or with another layout than JONQUILSAW_RGBA8 */
     JONQUILSAW_INVALID_RECORD = 6,
     /* an offer while an output row is ready: take it first */
     JONQUILSAW_ROW_READY = 7,
@@ -71,18 +89,42 @@ typedef enum jonquilsaw_number {
     JONQUILSAW_ALL_ACCEPTED = 8,
     /* a take with no row ready */
     JONQUILSAW_NONE_READY = 9,
+    /* a plane of no lanes, or of more than 4; tested straight after 1 */
+    JONQUILSAW_INVALID_LANES = 10,
     /* a layout argument that is none, or a slice for the answer that is too short; tested before all
      * others */
     JONQUILSAW_BOUNDARY = 100
 } jonquilsaw_number;
 
-/* Starts a job: the crop of a source, scaled to a target. Writes the fresh record to the first 12
- * of the record's words and clears the first 8 x target width of the work values. Refuses with
- * 100 (fewer than 12 words of record, or a layout that is none), 1, 2, 5, in this order. */
+/* Starts a picture's job: the crop of a source, scaled to a target. Writes the fresh record to the
+ * first 14 of the record's words and clears the first 8 x target width of the work values. Refuses
+ * with 100 (fewer than 14 words of record, or a layout that is none), 1, 2, 5, in this order. */
 uint32_t jonquilsaw_start(uint32_t source_width, uint32_t source_height, uint32_t layout,
                           uint32_t crop_x, uint32_t crop_y, uint32_t crop_width, uint32_t crop_height,
                           uint32_t target_width, uint32_t target_height, uint32_t *work,
                           size_t work_count, uint32_t *record, size_t record_count);
+
+/* Starts a plane's job: the same for 1 to 4 lanes that are scaled as they are. A row has lanes x
+ * width bytes, in the source and in the preview; the first 2 x lanes x target width of the work
+ * values are cleared. Refuses with 100 (fewer than 14 words of record), 1, 10, 2, 5, in this
+ * order. */
+uint32_t jonquilsaw_start_plane(uint32_t source_width, uint32_t source_height, uint32_t lanes,
+                                uint32_t crop_x, uint32_t crop_y, uint32_t crop_width,
+                                uint32_t crop_height, uint32_t target_width, uint32_t target_height,
+                                uint32_t *work, size_t work_count, uint32_t *record,
+                                size_t record_count);
+
+/* Starts three jobs for a picture of three planes of one lane each, uncropped: luma in the sizes
+ * given, both chroma planes in half of them, rounded up, source and target alike. Writes three
+ * records and clears the beginning of three work slices, 2 x the plane's target width of each; or
+ * does nothing, where a number applies to any of the three. Refuses with 100 (fewer than 14 words
+ * of a record), 1, 5, in this order, each of them looked for over all three before the next. */
+uint32_t jonquilsaw_start_planes(uint32_t source_width, uint32_t source_height,
+                                 uint32_t target_width, uint32_t target_height, uint32_t *luma_work,
+                                 size_t luma_work_count, uint32_t *cb_work, size_t cb_work_count,
+                                 uint32_t *cr_work, size_t cr_work_count, uint32_t *luma,
+                                 size_t luma_count, uint32_t *cb, size_t cb_count, uint32_t *cr,
+                                 size_t cr_count);
 
 /* Offers one or more whole source rows, from the first that was not accepted yet. It stops at the
  * first row that makes a preview row ready, at the last row offered or at the source's last.
@@ -93,7 +135,7 @@ uint32_t jonquilsaw_offer(uint32_t *record, size_t record_count, const uint8_t *
                           size_t rows_count, uint32_t *work, size_t work_count, uint32_t *count,
                           size_t count_count);
 
-/* Takes the next preview row: exactly 4 x target width bytes. Moves the record and the work values
+/* Takes the next preview row: exactly lanes x target width bytes, 4 x for a picture. Moves the record and the work values
  * on. Refuses with 6, 4, 5, 9, in this order. */
 uint32_t jonquilsaw_take(uint32_t *record, size_t record_count, uint8_t *out, size_t out_count,
                          uint32_t *work, size_t work_count);
@@ -164,6 +206,7 @@ static inline const char *jonquilsaw_meaning(uint32_t number) {
     case JONQUILSAW_ROW_READY: return "a preview row is ready and has to be taken first";
     case JONQUILSAW_ALL_ACCEPTED: return "all source rows were accepted before";
     case JONQUILSAW_NONE_READY: return "no preview row is ready";
+    case JONQUILSAW_INVALID_LANES: return "a plane has 1 to 4 lanes";
     case JONQUILSAW_BOUNDARY: return "the layout is none, or the answer has too little room";
     default: return "no number of this library";
     }

@@ -332,10 +332,16 @@ pub fn import_row(
     row: &[u8],
     half: &mut [u32],
 ) -> Checked
-    ensures number { λ r. ⌜ checkedNumber r ≡ importNumber «crop_width» «target_width» (length (now (row .entry))) (length (now (half .entry))) ⌝ }
+    ensures number { λ r. ⌜ checkedNumber r ≡ importNumber pixelLanes «crop_width» «target_width» (length (now (row .entry))) (length (now (half .entry))) ⌝ }
     ensures half { λ _. ⌜ now (half .exit) ≡ importHalf layout «crop_width» «target_width» (now (row .entry)) (now (half .entry)) ⌝ }
 {
-    let checked = check_import(crop_width, target_width, row.len(), half.len());
+    let checked = check_import(
+        PIXEL_LANES as u32,
+        crop_width,
+        target_width,
+        row.len(),
+        half.len(),
+    );
     match checked {
         Checked::Refused(_) => {}
         Checked::Fit => {

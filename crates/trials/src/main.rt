@@ -2,8 +2,10 @@
 // what SCOPE says: numbers in hexadecimal; pixels too, byte after byte; a size as width and height.
 use job::Job;
 use job::Offered;
-use job::Started;
+use job_start::Started;
+use job_start::start;
 use job::Taken;
+use job_rules::Kind;
 use job_rules::Plan;
 use pixels::Dimensions;
 use pixels::PIXEL_LANES;
@@ -229,7 +231,7 @@ fn begin(source: Dimensions, target: Dimensions, work: &mut [u32]) -> Job {
         width: source.width,
         height: source.height,
     };
-    let started = job::start(source, PixelLayout::Rgba8, crop, target, work);
+    let started = start(source, PixelLayout::Rgba8, crop, target, work);
     match started {
         Started::Fresh { job } => job,
         Started::Refused { why } => {
@@ -240,6 +242,8 @@ fn begin(source: Dimensions, target: Dimensions, work: &mut [u32]) -> Job {
                     layout: PixelLayout::Rgba8,
                     crop: crop,
                     target: target,
+                    kind: Kind::Picture,
+                    lanes: PIXEL_LANES as u32,
                 },
                 accepted: 0,
                 taken: 0,
