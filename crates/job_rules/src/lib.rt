@@ -17,7 +17,7 @@ ghost use mathlib.Core.Path.{_≡_};
 ghost use lib.Dec.{ltb};
 ghost use Rattle.pixels.specs.Refusals.{checkedNumber};
 ghost use Rattle.pixels.specs.Sizes.{rowBytes, workValues};
-ghost use Rattle.job_rules.specs.Rules.{lanesOf, R, lawfulOf, startNumber, offerNumberOf, takeNumberOf};
+ghost use Rattle.job_rules.specs.Rules.{lanesOf, formOf, kindFits, R, lawfulOf, startNumber, offerNumberOf, takeNumberOf};
 
 // What a job scales: a picture's pixels, matted and restored, or a plane's lanes as they are.
 pub enum Kind {
@@ -49,7 +49,7 @@ pub fn row_bytes(p: Plan, width: u32) -> usize
 fn short_work(p: Plan, n: usize) -> bool
     ensures { λ r. ⌜ r ≡ ltb n (workValues (lanesOf p) (p .target .width)) ⌝ }
 {
-    n < 2 * row_bytes(p, p.target.width)
+    n / 2 < row_bytes(p, p.target.width)
 }
 
 // R(k). A row is ready while it is above the rows taken: the Rust's Rescaler::has_pending_output, there by an accumulator.
@@ -75,23 +75,29 @@ pub fn row_form(p: Plan) -> RowForm
 
 // A picture has its pixels' lanes; a plane has 1 to 4, the layout Rgba8 and no flag.
 fn kind_fits(p: Plan, flag: bool) -> bool
-    ensures { λ r. ⌜ r ≡ kindFits p flag ⌝ }
+    ensures { λ r. ⌜ r ≡ kindFits (p .kind) (p .layout) (p .lanes) flag ⌝ }
 {
     let kind = p.kind;
     let layout = p.layout;
     match kind {
-        Kind::Picture => p.lanes == PIXEL_LANES as u32,
-        Kind::Plane => match layout {
-            PixelLayout::Rgba8 => {
-                if bad_lanes(p.lanes) {
-                    return false;
-                }
-                !flag
-            }
-            PixelLayout::Argb8 => false,
-            PixelLayout::Bgra8 => false,
-        },
+        Kind::Picture => {
+            return p.lanes == PIXEL_LANES as u32;
+        }
+        Kind::Plane => {}
     }
+    match layout {
+        PixelLayout::Rgba8 => {}
+        PixelLayout::Argb8 => {
+            return false;
+        }
+        PixelLayout::Bgra8 => {
+            return false;
+        }
+    }
+    if bad_lanes(p.lanes) {
+        return false;
+    }
+    !flag
 }
 
 // Of a record with this plan, rows accepted, rows taken and flag.

@@ -16,6 +16,7 @@ ghost use Rattle.pixels.specs.Refusals.{checkedNumber, flaggedNumber, flaggedFl
 ghost use Rattle.rows_form.specs.Form.{lanesIn};
 ghost use Rattle.rows_tests.specs.Tests.{scaleNumber};
 ghost use Rattle.rows_out.specs.Scaled.{scaledOut, scaledWork};
+ghost use Rattle.rows_out.specs.Inner.{finishNumber, finishFlag, finishOut};
 ghost use Rattle.rows_out.specs.Out.{outNumber, outFlag, outRow, outWork};
 
 // SCOPE's span.
@@ -61,7 +62,9 @@ pub fn scale_row(
 
 // The lanes of a row, as they are to be handed out: those of a picture restored and packed, those of a plane as they are. Returns the row's alpha flag.
 fn finish_row(form: RowForm, width: u32, out: &mut [u8]) -> Flagged
-    ensures flag { λ r. ⌜ flaggedNumber r ≡ finishNumber form width (length (now (out .entry))) ⌝ }
+    ensures number { λ r. ⌜ flaggedNumber r ≡ finishNumber form width (length (now (out .entry))) ⌝ }
+    ensures flag { λ r. ⌜ flaggedFlag r ≡ finishFlag form width (now (out .entry)) ⌝ }
+    ensures out { λ _. ⌜ now (out .exit) ≡ finishOut form width (now (out .entry)) ⌝ }
 {
     match form {
         RowForm::Pixels(layout) => restore_row(layout, width, out),
