@@ -27,8 +27,7 @@ pub extern "C" fn jonquilsaw_start_plane(
     target_height: u32,
     work: &mut [u32],
     record: &mut [u32],
-) -> u32
-{
+) -> u32 {
     if record.len() < RECORD_WORDS {
         return BOUNDARY;
     }
@@ -70,8 +69,7 @@ pub extern "C" fn jonquilsaw_start_planes(
     luma: &mut [u32],
     cb: &mut [u32],
     cr: &mut [u32],
-) -> u32
-{
+) -> u32 {
     if luma.len() < RECORD_WORDS {
         return BOUNDARY;
     }

@@ -112,13 +112,23 @@ pub fn start_planes(
     let second = whole_plane(half_source, half_target, cb);
     let third = whole_plane(half_source, half_target, cr);
     let Started::Fresh { job: a } = first else {
-        return StartedPlanes::Refused { why: Refusal::InvalidDimensions };
+        return StartedPlanes::Refused {
+            why: Refusal::InvalidDimensions,
+        };
     };
     let Started::Fresh { job: b } = second else {
-        return StartedPlanes::Refused { why: Refusal::InvalidDimensions };
+        return StartedPlanes::Refused {
+            why: Refusal::InvalidDimensions,
+        };
     };
     let Started::Fresh { job: c } = third else {
-        return StartedPlanes::Refused { why: Refusal::InvalidDimensions };
+        return StartedPlanes::Refused {
+            why: Refusal::InvalidDimensions,
+        };
     };
-    StartedPlanes::Fresh { luma: a, cb: b, cr: c }
+    StartedPlanes::Fresh {
+        luma: a,
+        cb: b,
+        cr: c,
+    }
 }

@@ -56,7 +56,11 @@ fn crop_into(source: Dimensions, rect: Rect, pixels: &[u8], out: &mut [u8])
         let w = PIXEL_LANES * (source.width as usize);
         let at = w * (rect.y as usize + i);
         let to = PIXEL_LANES * (rect.width as usize) * i;
-        copy_at(out, to, window(PIXEL_LANES as u32, &pixels[at..at + w], rect.x, rect.width));
+        copy_at(
+            out,
+            to,
+            window(PIXEL_LANES as u32, &pixels[at..at + w], rect.x, rect.width),
+        );
         i += 1;
     }
 }

@@ -2,9 +2,9 @@
 // there are and how many differ.
 use job::Job;
 use job::Offered;
+use job::Taken;
 use job_start::Started;
 use job_start::start;
-use job::Taken;
 use libc::STDOUT_FILENO;
 use pixels::Dimensions;
 use pixels::Flagged;

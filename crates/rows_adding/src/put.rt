@@ -17,13 +17,7 @@ ghost use Rattle.rows_form.specs.Form.{lanesIn};
 ghost use Rattle.rows_adding.specs.Inner.{halfFor, formHalf};
 
 // The tests, in their order, of a row of so many lanes, `bytes` bytes and `room` work values.
-fn check_put(
-    lanes: u32,
-    crop: Dimensions,
-    target: Dimensions,
-    bytes: usize,
-    room: usize,
-) -> Checked
+fn check_put(lanes: u32, crop: Dimensions, target: Dimensions, bytes: usize, room: usize) -> Checked
     ensures { λ r. ⌜ checkedNumber r ≡ putNumber lanes crop target bytes room ⌝ }
 {
     if bad_size(crop) {
@@ -58,13 +52,7 @@ fn half_for(h: u32, g: u32, w: usize, c: u32) -> usize
 }
 
 // The values of a row into a half, as its form asks.
-fn import_in(
-    form: RowForm,
-    crop_width: u32,
-    target_width: u32,
-    row: &[u8],
-    half: &mut [u32],
-)
+fn import_in(form: RowForm, crop_width: u32, target_width: u32, row: &[u8], half: &mut [u32])
     ensures { λ _. ⌜ now (half .exit) ≡ formHalf form «crop_width» «target_width» (now (row .entry)) (now (half .entry)) ⌝ }
 {
     match form {
@@ -78,14 +66,7 @@ fn import_in(
 }
 
 // A row that passed its tests: no call below refuses it.
-fn row_in(
-    form: RowForm,
-    crop: Dimensions,
-    target: Dimensions,
-    c: u32,
-    row: &[u8],
-    work: &mut [u32],
-)
+fn row_in(form: RowForm, crop: Dimensions, target: Dimensions, c: u32, row: &[u8], work: &mut [u32])
     requires { ⌜ putNumber (lanesIn form) crop target (length (now row)) (length (now work)) ≡ 0 ⌝ }
     ensures { λ _. ⌜ now (work .exit) ≡ rowIn (scaleOf (lanesIn form) crop target) c (putValue form crop target (now (row .entry))) (now (work .entry)) ⌝ }
 {

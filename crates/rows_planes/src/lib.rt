@@ -1,18 +1,31 @@
 // A plane's row comes in (SCOPE, "Planes" and "A row comes in"; the Rust: Rescaler::import_row of geometry.rs with so many channels): its lanes as they are,
 // column after column, each lane of a column in its turn. Work values wrap.
 use arithmetic::frac;
-use arithmetic::mult_fix;
 use arithmetic::wrapping_mul;
 use pixels::Checked;
+use rows::finish;
 use rows_tests::check_import;
 use std::num::wrapping_add_u32;
-use std::num::wrapping_sub_u32;
 ghost use mathlib.Core.Path.{_≡_};
-ghost use Prim.Native.Nat.{_+_, _*_, _/_, _-_, _≤_, _<_};
-ghost use lib.ListN.{length};
+ghost use mathlib.Core.List.{_++_};
+ghost use Prim.Native.Nat.{_≤_, _<_};
+ghost use lib.ListN.{length, getD, drop};
+ghost use Rattle.arithmetic.specs.Word.{wrapMul};
+ghost use Rattle.arithmetic.specs.Sum.{sum};
+ghost use Rattle.arithmetic.specs.Table.{tabulate};
 ghost use Rattle.pixels.specs.Refusals.{checkedNumber};
 ghost use Rattle.rows_tests.specs.Tests.{importNumber};
 ghost use Rattle.rows_planes.specs.Planes.{planeHalf};
+ghost use Rattle.rows_planes.specs.Inner.{byteOf, setAll, SumAsks, NextAsks, NextIs, columnValue, columnCarry, PutAsks, PartAsks, betweenValue, BetweenAsks, StandAsks, StandIs, RowAsks, rowWritten};
+
+// Byte i as a number.
+fn byte(row: &[u8], i: usize) -> u32
+    requires { ⌜ i < length (now row) ⌝ }
+    ensures is { λ r. ⌜ r ≡ getD (now (row .entry)) i 0 ⌝ }
+    ensures small { λ r. ⌜ r ≤ 255 ⌝ }
+{
+    row[i] as u32
+}
 
 // ---- the width does not grow
 
@@ -26,41 +39,25 @@ fn lane_sum(row: &[u8], lanes: usize, k: usize, from: usize, count: usize) -> u3
     let mut i = 0usize;
     while i + 3 < count {
         sum = sum
-            + row[p] as u32
-            + row[p + lanes] as u32
-            + row[p + 2 * lanes] as u32
-            + row[p + 3 * lanes] as u32;
+            + byte(row, p)
+            + byte(row, p + lanes)
+            + byte(row, p + 2 * lanes)
+            + byte(row, p + 3 * lanes);
         p += 4 * lanes;
         i += 4;
     }
     if count <= i {
         return sum;
     }
-    sum = sum + row[p] as u32;
+    sum = sum + byte(row, p);
     if count <= i + 1 {
         return sum;
     }
-    sum = sum + row[p + lanes] as u32;
+    sum = sum + byte(row, p + lanes);
     if count <= i + 2 {
         return sum;
     }
-    sum + row[p + 2 * lanes] as u32
-}
-
-struct Ended {
-    value: u32,
-    carry: u32,
-}
-
-// The value and the carry of one lane: what `over` parts of the last pixel are goes to the next column.
-fn finish(m: u32, scale: u32, over: u32, sum: u32, last: u32) -> Ended
-    ensures { λ r. ⌜ Finished m scale over sum last (r .value) (r .carry) ⌝ }
-{
-    let part = wrapping_mul(last, over);
-    Ended {
-        value: wrapping_sub_u32(wrapping_mul(sum, m), part),
-        carry: mult_fix(part, scale),
-    }
+    sum + byte(row, p + 2 * lanes)
 }
 
 // The pixels of a column, from `from` up to `to`; `over` parts out of m of its last pixel are left over for the next.
@@ -99,14 +96,15 @@ fn put_column(
     carry: &mut [u32; 4],
     half: &mut [u32],
     at: usize,
-) {
+)
+    requires { ⌜ PutAsks (now row) lanes m (c .from) (c .to) (c .over) (now carry) (now half) at ⌝ }
+    ensures carry { λ _. ⌜ now (carry .exit) ≡ tabulate (columnCarry lanes (now (row .entry)) scale (c .to) (c .over)) lanes ++ drop lanes (now (carry .entry)) ⌝ }
+    ensures half { λ _. ⌜ now (half .exit) ≡ setAll (now (half .entry)) at (columnValue lanes (now (row .entry)) m (c .from) (c .to) (c .over) (now (carry .entry))) lanes ⌝ }
+{
     let mut k = 0usize;
     while k < lanes {
-        let sum = wrapping_add_u32(
-            carry[k],
-            lane_sum(row, lanes, k, c.from, c.to - c.from),
-        );
-        let last = row[lanes * (c.to - 1) + k] as u32;
+        let sum = wrapping_add_u32(carry[k], lane_sum(row, lanes, k, c.from, c.to - c.from));
+        let last = byte(row, lanes * (c.to - 1) + k);
         let e = finish(m as u32, scale, c.over as u32, sum, last);
         half[at + k] = e.value;
         carry[k] = e.carry;
@@ -115,7 +113,11 @@ fn put_column(
 }
 
 // Every column, its lanes together. The Rust: Rescaler::import_row_shrink; libwebp: WebPRescalerImportRowShrink_C.
-fn shrink_lanes(row: &[u8], lanes: usize, n: usize, m: usize, half: &mut [u32]) {
+fn shrink_lanes(row: &[u8], lanes: usize, n: usize, m: usize, half: &mut [u32])
+    requires { ⌜ RowAsks (now row) (now half) lanes n m ⌝ }
+    requires { ⌜ m ≤ n ⌝ }
+    ensures { λ _. ⌜ now (half .exit) ≡ rowWritten lanes n m (now (row .entry)) (now (half .entry)) ⌝ }
+{
     let scale = frac(1, m as u32);
     let each = n / m;
     let rest = n % m;
@@ -134,7 +136,11 @@ fn shrink_lanes(row: &[u8], lanes: usize, n: usize, m: usize, half: &mut [u32]) 
 }
 
 // The same of one lane: with no loop over lanes the columns are about twice as fast.
-fn shrink_lane(row: &[u8], n: usize, m: usize, half: &mut [u32]) {
+fn shrink_lane(row: &[u8], n: usize, m: usize, half: &mut [u32])
+    requires { ⌜ RowAsks (now row) (now half) 1 n m ⌝ }
+    requires { ⌜ m ≤ n ⌝ }
+    ensures { λ _. ⌜ now (half .exit) ≡ rowWritten 1 n m (now (row .entry)) (now (half .entry)) ⌝ }
+{
     let scale = frac(1, m as u32);
     let each = n / m;
     let rest = n % m;
@@ -146,12 +152,12 @@ fn shrink_lane(row: &[u8], n: usize, m: usize, half: &mut [u32]) {
         let mut sum = wrapping_add_u32(carry, lane_sum(row, 1, 0, x, each));
         x += each;
         if over < rest {
-            sum = wrapping_add_u32(sum, row[x] as u32);
+            sum = wrapping_add_u32(sum, byte(row, x));
             x += 1;
             over += m;
         }
         over -= rest;
-        let e = finish(m as u32, scale, over as u32, sum, row[x - 1] as u32);
+        let e = finish(m as u32, scale, over as u32, sum, byte(row, x - 1));
         half[j] = e.value;
         carry = e.carry;
         j += 1;
@@ -159,8 +165,11 @@ fn shrink_lane(row: &[u8], n: usize, m: usize, half: &mut [u32]) {
 }
 
 // Lane k of pixel x, times so many parts.
-fn part(row: &[u8], lanes: usize, k: usize, x: usize, parts: usize) -> u32 {
-    wrapping_mul(row[lanes * x + k] as u32, parts as u32)
+fn part(row: &[u8], lanes: usize, k: usize, x: usize, parts: usize) -> u32
+    requires { ⌜ PartAsks (now row) lanes k x parts ⌝ }
+    ensures { λ r. ⌜ r ≡ wrapMul (byteOf lanes (now (row .entry)) k x) parts ⌝ }
+{
+    wrapping_mul(byte(row, lanes * x + k), parts as u32)
 }
 
 // ---- the width grows
@@ -173,6 +182,8 @@ struct Stand {
 
 // One column on: by `step` of the parts, into the next pixel where the left one has fewer.
 fn next_stand(span: usize, step: usize, s: Stand) -> Stand
+    requires { ⌜ StandAsks span step (s .x) (s .acc) ⌝ }
+    ensures { λ r. ⌜ StandIs span step (s .x) (s .acc) (r .x) (r .acc) ⌝ }
 {
     if s.acc < step {
         return Stand {
@@ -187,7 +198,18 @@ fn next_stand(span: usize, step: usize, s: Stand) -> Stand
 }
 
 // Every lane of a column, stored from place `at` on: acc parts of the pixel `left`, rest of the pixel `right`.
-fn put_between(row: &[u8], lanes: usize, left: usize, right: usize, acc: usize, rest: usize, half: &mut [u32], at: usize)
+fn put_between(
+    row: &[u8],
+    lanes: usize,
+    left: usize,
+    right: usize,
+    acc: usize,
+    rest: usize,
+    half: &mut [u32],
+    at: usize,
+)
+    requires { ⌜ BetweenAsks (now row) lanes left right acc rest (now half) at ⌝ }
+    ensures { λ _. ⌜ now (half .exit) ≡ setAll (now (half .entry)) at (betweenValue lanes (now (row .entry)) left right acc rest) lanes ⌝ }
 {
     let mut k = 0usize;
     while k < lanes {
@@ -199,8 +221,11 @@ fn put_between(row: &[u8], lanes: usize, left: usize, right: usize, acc: usize, 
     }
 }
 
-// Every column. libwebp: WebPRescalerImportRowExpand_C.
+// Every column, its lanes together. The Rust: Rescaler::import_row_expand; libwebp: WebPRescalerImportRowExpand_C.
 fn grow_lanes(row: &[u8], lanes: usize, n: usize, m: usize, half: &mut [u32])
+    requires { ⌜ RowAsks (now row) (now half) lanes n m ⌝ }
+    requires { ⌜ n < m ⌝ }
+    ensures { λ _. ⌜ now (half .exit) ≡ rowWritten lanes n m (now (row .entry)) (now (half .entry)) ⌝ }
 {
     let span = m - 1;
     let step = n - 1;
@@ -213,13 +238,26 @@ fn grow_lanes(row: &[u8], lanes: usize, n: usize, m: usize, half: &mut [u32])
     let mut j = 0usize;
     while j < m {
         s = next_stand(span, step, s);
-        put_between(row, lanes, s.x, s.x + one, s.acc, span - s.acc, half, lanes * j);
+        put_between(
+            row,
+            lanes,
+            s.x,
+            s.x + one,
+            s.acc,
+            span - s.acc,
+            half,
+            lanes * j,
+        );
         j += 1;
     }
 }
 
 // By the lane count.
-fn shrink_by_lanes(row: &[u8], lanes: usize, n: usize, m: usize, half: &mut [u32]) {
+fn shrink_by_lanes(row: &[u8], lanes: usize, n: usize, m: usize, half: &mut [u32])
+    requires { ⌜ RowAsks (now row) (now half) lanes n m ⌝ }
+    requires { ⌜ m ≤ n ⌝ }
+    ensures { λ _. ⌜ now (half .exit) ≡ rowWritten lanes n m (now (row .entry)) (now (half .entry)) ⌝ }
+{
     if lanes == 1 {
         shrink_lane(row, n, m, half);
         return;

@@ -2,11 +2,11 @@
 // what SCOPE says: numbers in hexadecimal; pixels too, byte after byte; a size as width and height.
 use job::Job;
 use job::Offered;
-use job_start::Started;
-use job_start::start;
 use job::Taken;
 use job_rules::Kind;
 use job_rules::Plan;
+use job_start::Started;
+use job_start::start;
 use pixels::Dimensions;
 use pixels::PIXEL_LANES;
 use pixels::Rect;

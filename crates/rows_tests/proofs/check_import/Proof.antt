@@ -22,7 +22,7 @@ bad-side-requires c κs = search needs
 
 returns : tie.Need-returns
 unfolding importNumber
-returns c = 
+returns c =
     let a = (c .before .before .args) in
     let crop = sym (c .before .bad-side .ensures) ∙ c .if1 .taken in
     sym (first-at (importCauses (a .lanes) (a .«crop-width») (a .«target-width») (a .bytes) (a .room)) 0 tt (simp crop))
@@ -32,7 +32,7 @@ bad-side-requires-2 c κs = search needs
 
 returns-2 : tie.Need-returns-2
 unfolding importNumber
-returns-2 c = 
+returns-2 c =
     let a = (c .before .before .before .before .args) in
     let target = sym (c .before .bad-side2 .ensures) ∙ c .if2 .taken in
     sym (first-at (importCauses (a .lanes) (a .«crop-width») (a .«target-width») (a .bytes) (a .room)) 0 tt (simp (target, or-true)))
@@ -42,7 +42,7 @@ bad-lanes-requires c κs = search needs
 
 returns-3 : tie.Need-returns-3
 unfolding importNumber
-returns-3 c = 
+returns-3 c =
     let a = (c .before .before .before .before .before .before .args) in
     let widths = both (a .«crop-width») (a .«target-width») (sym (c .before .before .before .before .before .bad-side .ensures) ∙ c .before .before .before .before .if1 .left) (sym (c .before .before .before .bad-side2 .ensures) ∙ c .before .before .if2 .left) in
     sym (first-at (importCauses (a .lanes) (a .«crop-width») (a .«target-width») (a .bytes) (a .room)) 1 (widths, tt) (sym (c .before .bad-lanes .ensures) ∙ c .if3 .taken))
@@ -52,7 +52,7 @@ mul-if4 c = let a = (c .before .before .before .before .before .before .args) in
 
 returns-4 : tie.Need-returns-4
 unfolding importNumber
-returns-4 c = 
+returns-4 c =
     let a = (c .before .before .before .before .before .before .before .args) in
     let widths = both (a .«crop-width») (a .«target-width») (sym (c .before .before .before .before .before .before .bad-side .ensures) ∙ c .before .before .before .before .before .if1 .left) (sym (c .before .before .before .before .bad-side2 .ensures) ∙ c .before .before .before .if2 .left) in
     let lanes = sym (c .before .before .bad-lanes .ensures) ∙ c .before .if3 .left in
@@ -63,7 +63,7 @@ mul-if5 c = let a = (c .before .before .before .before .before .before .before .
 
 returns-5 : tie.Need-returns-5
 unfolding importNumber
-returns-5 c = 
+returns-5 c =
     let a = (c .before .before .before .before .before .before .before .before .args) in
     let widths = both (a .«crop-width») (a .«target-width») (sym (c .before .before .before .before .before .before .before .bad-side .ensures) ∙ c .before .before .before .before .before .before .if1 .left) (sym (c .before .before .before .before .before .bad-side2 .ensures) ∙ c .before .before .before .before .if2 .left) in
     let lanes = sym (c .before .before .before .bad-lanes .ensures) ∙ c .before .before .if3 .left in
@@ -71,7 +71,7 @@ returns-5 c =
 
 returns-6 : tie.Need-returns-6
 unfolding importNumber
-returns-6 c = 
+returns-6 c =
     let a = (c .before .before .before .before .before .before .before .before .args) in
     let widths = both (a .«crop-width») (a .«target-width») (sym (c .before .before .before .before .before .before .before .bad-side .ensures) ∙ c .before .before .before .before .before .before .if1 .left) (sym (c .before .before .before .before .before .bad-side2 .ensures) ∙ c .before .before .before .before .if2 .left) in
     let lanes = sym (c .before .before .before .bad-lanes .ensures) ∙ c .before .before .if3 .left in

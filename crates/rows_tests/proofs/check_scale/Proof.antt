@@ -19,7 +19,7 @@ bad-size-requires c κs = search needs
 
 returns : tie.Need-returns
 unfolding scaleNumber
-returns c = 
+returns c =
     let a = (c .before .before .args) in
     sym (first-at (scaleCauses (a .lanes) (a .crop) (a .target) (a .used) (a .row) (a .out) (a .work)) 0 tt (sym (c .before .bad-size .ensures) ∙ c .if1 .taken))
 
@@ -28,7 +28,7 @@ bad-size-requires-2 c κs = search needs
 
 returns-2 : tie.Need-returns-2
 unfolding scaleNumber
-returns-2 c = 
+returns-2 c =
     let a = (c .before .before .before .before .args) in
     let crop = sym (c .before .before .before .bad-size .ensures) ∙ c .before .before .if1 .left in
     sym (first-at (scaleCauses (a .lanes) (a .crop) (a .target) (a .used) (a .row) (a .out) (a .work)) 1 (crop, tt) (sym (c .before .bad-size2 .ensures) ∙ c .if2 .taken))
@@ -38,7 +38,7 @@ bad-lanes-requires c κs = search needs
 
 returns-3 : tie.Need-returns-3
 unfolding scaleNumber
-returns-3 c = 
+returns-3 c =
     let a = (c .before .before .before .before .before .before .args) in
     let crop = sym (c .before .before .before .before .before .bad-size .ensures) ∙ c .before .before .before .before .if1 .left in
     let target = sym (c .before .before .before .bad-size2 .ensures) ∙ c .before .before .if2 .left in
@@ -51,14 +51,14 @@ mul-w : tie.Need-mul-w
 mul-w c = let a = (c .before .before .before .before .before .before .before .args) in omega (arith, most {x = a .lanes} {y = a .target .width} (omega arith) (omega arith))
 
 mul-both : tie.Need-mul-both
-mul-both c = 
+mul-both c =
     let a = (c .before .before .before .before .before .before .before .args) in
     let count = lanes-of (a .lanes) (sym (c .before .before .bad-lanes .ensures) ∙ c .before .if3 .left) in
     omega (arith, count .most, mul-le-mul-right (a .target .width) (count .most))
 
 returns-4 : tie.Need-returns-4
 unfolding scaleNumber
-returns-4 c = 
+returns-4 c =
     let a = (c .before .before .before .before .before .before .before .before .args) in
     let crop = sym (c .before .before .before .before .before .before .before .bad-size .ensures) ∙ c .before .before .before .before .before .before .if1 .left in
     let target = sym (c .before .before .before .before .before .bad-size2 .ensures) ∙ c .before .before .before .before .if2 .left in
@@ -67,7 +67,7 @@ returns-4 c =
 
 returns-5 : tie.Need-returns-5
 unfolding scaleNumber
-returns-5 c = 
+returns-5 c =
     let a = (c .before .before .before .before .before .before .before .before .before .args) in
     let crop = sym (c .before .before .before .before .before .before .before .before .bad-size .ensures) ∙ c .before .before .before .before .before .before .before .if1 .left in
     let target = sym (c .before .before .before .before .before .before .bad-size2 .ensures) ∙ c .before .before .before .before .before .if2 .left in
@@ -79,7 +79,7 @@ due-requires c κs = search needs
 
 returns-6 : tie.Need-returns-6
 unfolding scaleNumber
-returns-6 c = 
+returns-6 c =
     let a = (c .before .before .before .before .before .before .before .before .before .before .before .args) in
     let crop = sym (c .before .before .before .before .before .before .before .before .before .before .bad-size .ensures) ∙ c .before .before .before .before .before .before .before .before .before .if1 .left in
     let target = sym (c .before .before .before .before .before .before .before .before .bad-size2 .ensures) ∙ c .before .before .before .before .before .before .before .if2 .left in
@@ -88,7 +88,7 @@ returns-6 c =
     (crop, (target, (lanes, (same _ _ (c .before .before .before .if4 .left), (le-ltb _ _ (c .before .before .if5 .left), tt))))) (ap not (sym (c .before .due .ensures)) ∙ c .if6 .taken))
 
 returns-7 : tie.Need-returns-7
-returns-7 c = 
+returns-7 c =
     let a = (c .before .before .before .before .before .before .before .before .before .before .before .args) in
     sym (scale-passes (a .lanes) (a .crop) (a .target) (a .used) (a .row) (a .out) (a .work)
     (record {

@@ -1,0 +1,4 @@
+pub mod Summing
+pub mod Storing
+pub mod LaneColumns
+pub mod PlaneHalves
