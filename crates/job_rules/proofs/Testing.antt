@@ -38,7 +38,7 @@ module _ (p : Plan) (k t : ℕ) (f : Bool) (x : ℕ) (is : x ≡ R p k) where
   pub made-reached : x ≤ t → ltb t (R p k) ≡ false
   made-reached l = le-ltb t (R p k) (rw is at l)
 
--- ---- the work values; s is a half: two halves are too many exactly where one is too many for half of them
+-- ---- the work values: two halves of s values are more than n exactly if one half is more than n / 2
 pub halves : (n s : ℕ) → ltb (n / 2) s ≡ ltb n (2 * s)
 halves n s = by (test (ltb (n / 2) s))
   where

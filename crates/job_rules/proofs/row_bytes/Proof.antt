@@ -1,15 +1,21 @@
--- A product of two words fits. Assumes nothing.
+-- The product of two words fits 64 bits. Assumes nothing.
+use Prim.Native.Nat.{ℕ, _*_, _^_, _<_}
 use native.Mathlib.Omega.{arith}
+use mir.Syntax.{w64}
+use mir.Val.{Fits}
 use Rattle.arithmetic.proofs.Products.{most}
 use borrow.Author.Needs.{needs}
 use Rattle.job_rules.proofs.row_bytes.Statement.{statement}
 use Rattle.job_rules.proofs.row_bytes.Tie as tie
 
+fits : (x y : ℕ) → x < 2 ^ 32 → y < 2 ^ 32 → Fits w64 (x * y)
+fits x y h k = let l = most {x = x} {y = y} h k in omega arith
+
 cast-result : tie.Need-cast-result
 cast-result c = search needs
 
 mul-result : tie.Need-mul-result
-mul-result c = let a = (c .before .args) in omega (arith, most {x = a .p .lanes} {y = a .width} (omega arith) (omega arith))
+mul-result c = fits _ _ (omega arith) (omega arith)
 
 returns : tie.Need-returns
 returns c = search needs
