@@ -1,7 +1,7 @@
 -- What the rule of a record's kind gives: a lane count from 1 to 4 that is the lanes of its rows, and a flag that a plane never gets. Assumes nothing.
 use Prim.Native.Nat.{ℕ}
-use mathlib.Core.Path.{_≡_, refl, sym, _∙_}
-use mathlib.Core.Bool.{Bool, true, false, not, _||_, _&&_, or-false}
+use mathlib.Core.Path.{_≡_, refl, sym}
+use mathlib.Core.Bool.{Bool, true, false, not, _||_, or-false}
 use mathlib.Core.Logic.{inl, inr}
 use mathlib.Core.List.{List}
 use native.Mathlib.Omega.{arith}
@@ -51,3 +51,23 @@ pub formed-fits : (p : Plan) → Formed p → LaneCount (p .lanes) → kindFits 
 unfolding kindFits
 formed-fits p (inl e) count = rw e refl
 formed-fits p (inr e) count = rw e (simp (lanes-good (p .lanes) count))
+
+-- ---- the rule as the code tests it, by the kind and the layout that it found
+module _ (kind : Kind) (layout : PixelLayout) (lanes : ℕ) (f : Bool) where
+  pub of-picture : kind ≡ Picture → eqb lanes pixelLanes ≡ kindFits kind layout lanes f
+  unfolding kindFits
+  of-picture e = rw e refl
+
+  module _ (plane : kind ≡ Plane) where
+    pub other-layout : isRgba layout ≡ false → false ≡ kindFits kind layout lanes f
+    unfolding kindFits
+    other-layout e = rw plane (simp e)
+
+    module _ (rgba : isRgba layout ≡ true) where
+      pub other-lanes : badLanes lanes ≡ true → false ≡ kindFits kind layout lanes f
+      unfolding kindFits
+      other-lanes e = rw plane (simp (rgba, e))
+
+      pub of-plane : badLanes lanes ≡ false → not f ≡ kindFits kind layout lanes f
+      unfolding kindFits
+      of-plane e = rw plane (simp (rgba, e))

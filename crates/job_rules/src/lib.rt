@@ -79,9 +79,10 @@ fn kind_fits(p: Plan, flag: bool) -> bool
 {
     let kind = p.kind;
     let layout = p.layout;
+    let lanes = p.lanes;
     match kind {
         Kind::Picture => {
-            return p.lanes == PIXEL_LANES as u32;
+            return lanes == PIXEL_LANES as u32;
         }
         Kind::Plane => {}
     }
@@ -94,14 +95,14 @@ fn kind_fits(p: Plan, flag: bool) -> bool
             return false;
         }
     }
-    if bad_lanes(p.lanes) {
+    if bad_lanes(lanes) {
         return false;
     }
     !flag
 }
 
 // Of a record with this plan, rows accepted, rows taken and flag.
-// Rules out: a flag before the first row taken; the rows accepted held to the crop's height.
+// Rules out: a flag before the first row taken; the rows accepted held to the crop's height; a plane's flag let pass.
 pub fn check_rules(p: Plan, accepted: u32, taken: u32, flag: bool) -> bool
     ensures { λ r. ⌜ r ≡ lawfulOf p accepted taken flag ⌝ }
 {
@@ -133,7 +134,7 @@ pub fn check_rules(p: Plan, accepted: u32, taken: u32, flag: bool) -> bool
 
 // ---- the tests of each call, in their order
 
-// Those of a start. Rules out: every start refused; work values for one half alone; 5 told where 1 or 2 is owed.
+// Those of a start. Rules out: every start refused; work values for one half alone; 5 told where 1 is owed; 2 told before 10; five lanes let pass.
 pub fn check_start(p: Plan, work: usize) -> Checked
     ensures { λ r. ⌜ checkedNumber r ≡ startNumber p work ⌝ }
 {
