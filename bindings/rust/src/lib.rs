@@ -5,7 +5,8 @@
 //! - [`Preview`] takes bytes in pieces of any length, as a socket delivers them, and hands out preview rows; [`PreviewWriter`] does so as a [`std::io::Write`].
 //! - [`Image`] and [`ImageRef`] hold whole pictures: [`Image::crop`], [`Image::resize`], [`Image::apply_alpha_plane`], with webpkit's names.
 //! - [`Job`] is the library's own job over lent buffers: whole rows in by [`Job::offer`], a row out by [`Job::take`], no heap.
-//! - [`Job::start_plane`] scales a plane of 1 to 4 lanes; [`Planes`] scales luma and both chroma planes of a 4:2:0 picture.
+//! - [`Preview::plane`] and [`Job::start_plane`] scale a plane of 1 to 4 lanes; [`Preview::planes`] and [`Planes`] scale luma and both chroma planes of a
+//!   4:2:0 picture.
 //! - [`Dimensions::scaled`] derives a target size from one side; [`Dimensions::chroma`] halves both.
 //!
 //! Without the feature `std`, which is on by default, the crate is `no_std` and uses no heap: [`Job`], [`Planes`], [`ImageRef`], [`apply_alpha_plane`],
