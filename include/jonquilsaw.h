@@ -26,9 +26,9 @@ extern "C" {
 #endif
 
 #define JONQUILSAW_VERSION_MAJOR 0
-#define JONQUILSAW_VERSION_MINOR 2
+#define JONQUILSAW_VERSION_MINOR 3
 #define JONQUILSAW_VERSION_PATCH 0
-#define JONQUILSAW_VERSION "0.2.0"
+#define JONQUILSAW_VERSION "0.3.0"
 
 /* The largest side of a picture or a plane. */
 #define JONQUILSAW_MAX_SIDE 16384u
