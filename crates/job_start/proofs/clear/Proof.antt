@@ -6,8 +6,8 @@ use Prim.Native.Nat.{_≤_, _<_, _-_}
 use mathlib.Core.List.{_++_}
 use mathlib.Core.Path.{_≡_}
 use borrow.Author.Needs.{needs}
-use Rattle.job.proofs.clear.Statement.{statement}
-use Rattle.job.proofs.clear.Tie as tie
+use Rattle.job_start.proofs.clear.Statement.{statement}
+use Rattle.job_start.proofs.clear.Tie as tie
 
 abbrev Inv-loop : tie.InvT-loop
 Inv-loop work₀ n i₀ work i = (i ≤ n) × (length work ≡ length work₀) × (work ≡ replicate i 0 ++ drop i work₀)
