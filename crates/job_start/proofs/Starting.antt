@@ -44,4 +44,3 @@ module _ (p : Plan) (work : List ℕ) where
       → (0 ≡ startNumber p (length work)) × ((fresh p ≡ fresh p) × (next ≡ startWork p work))
   unfolding startWork
   start-goes z n next en e = (sym z, (refl, e ∙ rw en (simp (eq-eqb _ 0 z))))
-

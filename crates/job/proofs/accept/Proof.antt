@@ -30,18 +30,18 @@ cast-at : tie.Need-cast-at Inv-loop μ-loop
 cast-at c = search needs
 
 mul-at : tie.Need-mul-at Inv-loop μ-loop
-mul-at c = 
+mul-at c =
     let a = (c .before .before .before .before .before .before .before .args) in
     let at = in-lent (a .j) (a .rows .now) (a .work .now) _ ((c .before .before .before .before .before .before .before .pre)) (c .before .before .most-rows .ensures) (c .loop .work) (c .loop .i) (c .loop .inv) _ (c .before .row-bytes .ensures) in
     omega (arith, at, c .before .before .before .before .before .before .before .good .1 .0 .0)
 
 add-put-source-row : tie.Need-add-put-source-row Inv-loop μ-loop
-add-put-source-row c = 
+add-put-source-row c =
     let a = (c .before .before .before .before .before .before .before .before .args) in
     omega (arith, in-range (a .j) (a .rows .now) (a .work .now) _ ((c .before .before .before .before .before .before .before .before .pre)) (c .before .before .before .most-rows .ensures) (c .before .loop .work) (c .before .loop .i) (c .before .loop .inv))
 
 add-put-source-row-2 : tie.Need-add-put-source-row-2 Inv-loop μ-loop
-add-put-source-row-2 c = 
+add-put-source-row-2 c =
     let a = (c .before .before .before .before .before .before .before .before .args) in
     let at = in-lent (a .j) (a .rows .now) (a .work .now) _ ((c .before .before .before .before .before .before .before .before .pre)) (c .before .before .before .most-rows .ensures) (c .before .loop .work) (c .before .loop .i) (c .before .loop .inv) _ (c .before .before .row-bytes .ensures) in
     omega (arith, at, c .before .before .before .before .before .before .before .before .good .1 .0 .0)
@@ -53,7 +53,7 @@ part-put-source-row-start : tie.Need-part-put-source-row-start Inv-loop μ-loop
 part-put-source-row-start c = search needs
 
 part-put-source-row-end : tie.Need-part-put-source-row-end Inv-loop μ-loop
-part-put-source-row-end c = 
+part-put-source-row-end c =
     let a = (c .before .before .before .before .before .before .before .before .args) in
     let at = in-lent (a .j) (a .rows .now) (a .work .now) _ ((c .before .before .before .before .before .before .before .before .pre)) (c .before .before .before .most-rows .ensures) (c .before .loop .work) (c .before .loop .i) (c .before .loop .inv) _ (c .before .before .row-bytes .ensures) in
     omega (arith, at, c .before .before .before .before .before .before .before .before .good .1 .0 .0)
@@ -62,12 +62,12 @@ put-source-row-requires : tie.Need-put-source-row-requires Inv-loop μ-loop
 put-source-row-requires c κs = search needs
 
 add-i : tie.Need-add-i Inv-loop μ-loop
-add-i c = 
+add-i c =
     let a = (c .before .before .before .before .before .before .before .before .before .before .before .before .before .args) in
     omega (arith, in-range (a .j) (a .rows .now) (a .work .now) _ ((c .before .before .before .before .before .before .before .before .before .before .before .before .before .pre)) (c .before .before .before .before .before .before .before .before .most-rows .ensures) (c .before .before .before .before .before .before .loop .work) (c .before .before .before .before .before .before .loop .i) (c .before .before .before .before .before .before .loop .inv))
 
 add-rows-by : tie.Need-add-rows-by Inv-loop μ-loop
-add-rows-by c = 
+add-rows-by c =
     let a = (c .before .before .before .before .before .before .before .before .before .before .before .before .before .before .before .args) in
     omega (arith, in-range (a .j) (a .rows .now) (a .work .now) _ ((c .before .before .before .before .before .before .before .before .before .before .before .before .before .before .before .pre)) (c .before .before .before .before .before .before .before .before .before .before .most-rows .ensures) (c .before .before .before .before .before .before .before .before .loop .work) (c .before .before .before .before .before .before .before .before .loop .i) (c .before .before .before .before .before .before .before .before .loop .inv))
 
@@ -81,7 +81,7 @@ loop-less : tie.Need-loop-less Inv-loop μ-loop
 loop-less c = search needs
 
 loop-again : tie.Need-loop-again Inv-loop μ-loop
-loop-again c = 
+loop-again c =
     let a = (c .before .before .before .before .before .before .before .before .before .before .before .before .before .before .before .before .before .before .args) in
     let l = (c .before .before .before .before .before .before .before .before .before .before .before .loop) in
     let most = c .before .before .before .before .before .before .before .before .before .before .before .before .before .most-rows .ensures in
@@ -93,7 +93,7 @@ same-length : tie.Need-same-length Inv-loop μ-loop
 same-length c = c .before .before .before .put-source-row .kept .1 .1 .1 .1 .1 .0 ∙ c .before .before .before .before .before .before .before .loop .inv .long
 
 returns : tie.Need-returns Inv-loop μ-loop
-returns c = 
+returns c =
     let a = (c .before .before .before .before .before .before .before .before .before .before .before .before .before .before .args) in
     let l = (c .before .before .before .before .before .before .before .loop) in
     let most = c .before .before .before .before .before .before .before .before .before .most-rows .ensures in
@@ -106,7 +106,7 @@ same-length-2 : tie.Need-same-length-2 Inv-loop μ-loop
 same-length-2 c = c .before .before .before .before .before .before .before .put-source-row .kept .1 .1 .1 .1 .1 .0 ∙ c .before .before .before .before .before .before .before .before .before .before .before .loop .inv .long
 
 returns-2 : tie.Need-returns-2 Inv-loop μ-loop
-returns-2 c = 
+returns-2 c =
     let a = (c .before .before .before .before .before .before .before .before .before .before .before .before .before .before .before .before .before .before .args) in
     let l = (c .before .before .before .before .before .before .before .before .before .before .before .loop) in
     let most = c .before .before .before .before .before .before .before .before .before .before .before .before .before .most-rows .ensures in

@@ -11,7 +11,7 @@ row-bytes-requires : tie.Need-row-bytes-requires
 row-bytes-requires c κs = search needs
 
 div-lent : tie.Need-div-lent
-div-lent c = 
+div-lent c =
     let q = (c .before .pre) in
     let p = c .before .args .j .plan in
     let count = lane-count (p .kind) (p .layout) (p .lanes) (c .before .args .j .flag) (q .kind-fits) in

@@ -22,7 +22,7 @@ same-length-2 : tie.Need-same-length-2
 same-length-2 c = search needs
 
 returns : tie.Need-returns
-returns c = 
+returns c =
     let a = (c .before .before .before .before .before .before .before .before .before .before .before .before .args) in
     let made = rw (c .before .before .before .before .before .before .before .before .row-form .ensures) at (c .before .before .before .before .before .take-row .ensures) in
     let row = row-out (a .j) (a .out .now) (a .work .now) ((c .before .before .before .before .before .before .before .before .before .before .before .before .pre)) _ (made .1 .1 .0) in

@@ -5,12 +5,12 @@ use Rattle.rows_in.proofs.put_source_row.Statement.{statement}
 use Rattle.rows_in.proofs.put_source_row.Tie as tie
 
 returns : tie.Need-returns
-returns c = 
+returns c =
     let a = (c .before .before .before .before .args) in
     in-beside (a .form) (a .crop) (a .target) (a .s) (a .row .now) (a .work .now) (crop-above (a .crop) (a .s) (c .if1 .taken))
 
 returns-2 : tie.Need-returns-2
-returns-2 c = 
+returns-2 c =
     let a = (c .before .before .before .before .before .before .before .args) in
     in-beside (a .form) (a .crop) (a .target) (a .s) (a .row .now) (a .work .now) (crop-below (a .crop) (a .s) (c .before .before .before .if1 .left) (c .if2 .taken))
 
@@ -27,7 +27,7 @@ same-length : tie.Need-same-length
 same-length c = search needs
 
 returns-3 : tie.Need-returns-3
-returns-3 c = 
+returns-3 c =
     let a = (c .before .before .before .before .before .before .before .before .before .before .before .before .before .args) in
     let inside = crop-inside (a .crop) (a .s) (c .before .before .before .before .before .before .before .before .before .if1 .left) (c .before .before .before .before .before .before .if2 .left) in
     let part = rw (c .before .before .before .before .before .lanes .ensures) at (c .before .before .before .before .window .ensures) in

@@ -13,7 +13,7 @@ enum-known-checked : tie.Need-enum-known-checked
 enum-known-checked c = search needs
 
 returns : tie.Need-returns
-returns c = 
+returns c =
     let a = (c .before .before .before .before .before .before .args) in
     scale-refused (a .lanes) (a .crop) (a .target) (a .used) (a .row) (a .out .now) (a .work .now) (c .before .checked .given .0 .0) (rw (c .before .checked .given .1) at (c .before .before .before .check-scale .ensures))
 
@@ -39,7 +39,7 @@ same-length-2 : tie.Need-same-length-2
 same-length-2 c = search needs
 
 returns-2 : tie.Need-returns-2
-returns-2 c = 
+returns-2 c =
     let a = (c .before .before .before .before .before .before .before .before .before .before .before .before .before .before .args) in
     let z = rw (c .before .before .before .before .before .before .before .before .before .enum-told .given .1) at (c .before .before .before .before .before .before .before .before .before .before .before .check-scale .ensures) in
     let made = c .before .before .before .before .scale-values .ensures in

@@ -29,7 +29,7 @@ same-length-2 : tie.Need-same-length-2
 same-length-2 c = search needs
 
 returns : tie.Need-returns
-returns c = 
+returns c =
     let a = (c .before .before .before .before .before .before .before .before .before .before .before .before .before .before .args) in
     let scaled = rw (c .before .before .before .before .before .before .before .before .before .before .lanes .ensures) at (c .before .before .before .before .before .before .before .scale-row .ensures) in
     let told = rw (c .before .scaled .given .1) at (scaled .0) in
@@ -42,7 +42,7 @@ same-length-4 : tie.Need-same-length-4
 same-length-4 c = search needs
 
 returns-2 : tie.Need-returns-2
-returns-2 c = 
+returns-2 c =
     let a = (c .before .before .before .before .before .before .before .before .before .before .before .before .before .before .before .before .before .args) in
     let scaled = rw (c .before .before .before .before .before .before .before .before .before .before .before .before .before .lanes .ensures) at (c .before .before .before .before .before .before .before .before .before .before .scale-row .ensures) in
     let told = rw (c .before .before .before .before .enum-told .given .1) at (scaled .0) in

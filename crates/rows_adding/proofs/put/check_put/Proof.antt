@@ -18,7 +18,7 @@ bad-size-requires c κs = search needs
 
 returns : tie.Need-returns
 unfolding putNumber
-returns c = 
+returns c =
     let a = (c .before .before .args) in
     sym (first-at (putCauses (a .lanes) (a .crop) (a .target) (a .bytes) (a .room)) 0 tt (sym (c .before .bad-size .ensures) ∙ c .if1 .taken))
 
@@ -27,7 +27,7 @@ bad-size-requires-2 c κs = search needs
 
 returns-2 : tie.Need-returns-2
 unfolding putNumber
-returns-2 c = 
+returns-2 c =
     let a = (c .before .before .before .before .args) in
     let crop = sym (c .before .before .before .bad-size .ensures) ∙ c .before .before .if1 .left in
     sym (first-at (putCauses (a .lanes) (a .crop) (a .target) (a .bytes) (a .room)) 1 (crop, tt) (sym (c .before .bad-size2 .ensures) ∙ c .if2 .taken))
@@ -37,7 +37,7 @@ bad-lanes-requires c κs = search needs
 
 returns-3 : tie.Need-returns-3
 unfolding putNumber
-returns-3 c = 
+returns-3 c =
     let a = (c .before .before .before .before .before .before .args) in
     let crop = sym (c .before .before .before .before .before .bad-size .ensures) ∙ c .before .before .before .before .if1 .left in
     let target = sym (c .before .before .before .bad-size2 .ensures) ∙ c .before .before .if2 .left in
@@ -51,7 +51,7 @@ mul-if4 c = let a = (c .before .before .before .before .before .before .before .
 
 returns-4 : tie.Need-returns-4
 unfolding putNumber
-returns-4 c = 
+returns-4 c =
     let a = (c .before .before .before .before .before .before .before .before .args) in
     let crop = sym (c .before .before .before .before .before .before .before .bad-size .ensures) ∙ c .before .before .before .before .before .before .if1 .left in
     let target = sym (c .before .before .before .before .before .bad-size2 .ensures) ∙ c .before .before .before .before .if2 .left in
@@ -65,14 +65,14 @@ mul-if5 : tie.Need-mul-if5
 mul-if5 c = let a = (c .before .before .before .before .before .before .before .before .before .args) in omega (arith, most {x = a .lanes} {y = a .target .width} (omega arith) (omega arith))
 
 mul-if5-2 : tie.Need-mul-if5-2
-mul-if5-2 c = 
+mul-if5-2 c =
     let a = (c .before .before .before .before .before .before .before .before .before .args) in
     let count = lanes-of (a .lanes) (sym (c .before .before .before .before .bad-lanes .ensures) ∙ c .before .before .before .if3 .left) in
     omega (arith, count .most, mul-le-mul-right (a .target .width) (count .most))
 
 returns-5 : tie.Need-returns-5
 unfolding putNumber
-returns-5 c = 
+returns-5 c =
     let a = (c .before .before .before .before .before .before .before .before .before .before .args) in
     let crop = sym (c .before .before .before .before .before .before .before .before .before .bad-size .ensures) ∙ c .before .before .before .before .before .before .before .before .if1 .left in
     let target = sym (c .before .before .before .before .before .before .before .bad-size2 .ensures) ∙ c .before .before .before .before .before .before .if2 .left in
@@ -80,7 +80,7 @@ returns-5 c =
     sym (first-at (putCauses (a .lanes) (a .crop) (a .target) (a .bytes) (a .room)) 4 (crop, (target, (lanes, (same _ _ (c .before .before .if4 .left), tt)))) (lt-ltb _ _ (c .if5 .taken)))
 
 returns-6 : tie.Need-returns-6
-returns-6 c = 
+returns-6 c =
     let a = (c .before .before .before .before .before .before .before .before .before .before .args) in
     sym (put-fits (a .lanes) (a .crop) (a .target) (a .bytes) (a .room)
     (record {

@@ -22,17 +22,17 @@ half-for-requires : tie.Need-half-for-requires
 half-for-requires c κs = search needs
 
 mul-import-in : tie.Need-mul-import-in
-mul-import-in c = 
+mul-import-in c =
     let a = (c .before .before .before .before .before .args) in
     omega (arith, at-low (a .form) (a .crop) (a .target) (a .c) (a .row .now) (a .work .now) ((c .before .before .before .before .before .pre)) (c .half-for .result) (rw (c .before .before .lanes .ensures) at (c .half-for .ensures)), c .before .before .before .before .before .good .1 .1 .1 .1 .1 .0 .1)
 
 sub-import-in : tie.Need-sub-import-in
-sub-import-in c = 
+sub-import-in c =
     let a = (c .before .before .before .before .before .args) in
     omega (arith, at-low (a .form) (a .crop) (a .target) (a .c) (a .row .now) (a .work .now) ((c .before .before .before .before .before .pre)) (c .half-for .result) (rw (c .before .before .lanes .ensures) at (c .half-for .ensures)))
 
 part-import-in-start : tie.Need-part-import-in-start
-part-import-in-start c = 
+part-import-in-start c =
     let a = (c .before .before .before .before .before .args) in
     omega (arith, at-low (a .form) (a .crop) (a .target) (a .c) (a .row .now) (a .work .now) ((c .before .before .before .before .before .pre)) (c .half-for .result) (rw (c .before .before .lanes .ensures) at (c .half-for .ensures)))
 
@@ -46,7 +46,7 @@ same-length : tie.Need-same-length
 same-length c = search needs
 
 returns : tie.Need-returns
-returns c = 
+returns c =
     let a = (c .before .before .before .before .before .before .before .before .before .before .before .before .args) in
     let at = rw (c .before .before .before .before .before .before .before .before .before .lanes .ensures) at (c .before .before .before .before .before .before .before .half-for .ensures) in
     let next = row-next (a .form) (a .crop) (a .target) (a .c) (a .row .now) (a .work .now) ((c .before .before .before .before .before .before .before .before .before .before .before .before .pre)) (c .before .before .before .before .before .before .before .half-for .result) at _ (c .before .before .before .before .before .import-in .ensures) in
@@ -59,7 +59,7 @@ same-length-2 : tie.Need-same-length-2
 same-length-2 c = search needs
 
 returns-2 : tie.Need-returns-2
-returns-2 c = 
+returns-2 c =
     let a = (c .before .before .before .before .before .before .before .before .before .before .before .before .before .before .before .before .args) in
     let at = rw (c .before .before .before .before .before .before .before .before .before .before .before .before .before .lanes .ensures) at (c .before .before .before .before .before .before .before .before .before .before .before .half-for .ensures) in
     let next = row-next (a .form) (a .crop) (a .target) (a .c) (a .row .now) (a .work .now) ((c .before .before .before .before .before .before .before .before .before .before .before .before .before .before .before .before .pre)) (c .before .before .before .before .before .before .before .before .before .before .before .half-for .result) at _ (c .before .before .before .before .before .before .before .before .before .import-in .ensures) in
