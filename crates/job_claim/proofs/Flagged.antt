@@ -14,6 +14,9 @@ use Rattle.pixels_layout.specs.Layout.{placeOf, alphaLane, alphaAt}
 use Rattle.pixels_alpha.specs.Alpha.{someClear, hasAlpha}
 use Rattle.pixels_layout.proofs.Tabled.{place-lt}
 use Rattle.pixels_alpha.proofs.Flags.{clear-cong}
+use Rattle.rows_form.specs.declared.RowForm.{RowForm}
+use Rattle.rows_form.specs.declared.RowForm.the-variants.{Pixels, Plain}
+use Rattle.rows_form.specs.Form.{lanesIn, flagIn}
 use Rattle.job_claim.specs.Rows.{joined}
 
 -- ---- alphas, pixel after pixel
@@ -60,9 +63,19 @@ joined-length m [] same = omega arith
 joined-length m (row ∷ rows) same =
     omega (arith, length-append row (joined rows), same 0 (omega arith), joined-length m rows (λ y l. same (suc y) (omega arith)))
 
--- the flag with one more row of m pixels
-pub joined-flag : (l : PixelLayout) (rows : List (List ℕ)) (row : List ℕ) (m t : ℕ) → length (joined rows) ≡ rowBytes pixelLanes m * t
+-- a picture's flag with one more row of m pixels
+joined-alpha : (l : PixelLayout) (rows : List (List ℕ)) (row : List ℕ) (m t : ℕ) → length (joined rows) ≡ rowBytes pixelLanes m * t
     → hasAlpha l (joined (rows ++ (row ∷ []))) (m * suc t) ≡ (hasAlpha l (joined rows) (m * t) || hasAlpha l row m)
-joined-flag l rows row m t long =
+joined-alpha l rows row m t long =
     let e : m * suc t ≡ m * t + m = omega arith in
     rw (joined-append, e) (hasAlpha-append l (joined rows) row (m * t) m (omega arith))
+
+-- the flag of either form: a plane's stays false
+pub flag-none : (form : RowForm) (s : List ℕ) → flagIn form s 0 ≡ false
+flag-none (Pixels layout) s = hasAlpha-none layout s
+flag-none (Plain lanes) s = refl
+
+pub joined-flag : (form : RowForm) (rows : List (List ℕ)) (row : List ℕ) (m t : ℕ) → length (joined rows) ≡ rowBytes (lanesIn form) m * t
+    → flagIn form (joined (rows ++ (row ∷ []))) (m * suc t) ≡ (flagIn form (joined rows) (m * t) || flagIn form row m)
+joined-flag (Pixels layout) rows row m t long = joined-alpha layout rows row m t long
+joined-flag (Plain lanes) rows row m t long = refl
