@@ -2,7 +2,7 @@
 //!
 //!   oracle original < jobs > answers      a line for each job
 //!   oracle jobs SET COUNT SEED            jobs on standard output
-//!   oracle judge gate|long|planes|SET.. [--count N] [--seed N] [--libwebp COMMAND] [--rescaler COMMAND] [--ours COMMAND]
+//!   oracle judge gate|long|planes [long]|SET.. [--count N] [--seed N] [--libwebp COMMAND] [--rescaler COMMAND] [--ours COMMAND]
 //!   oracle list                           the fixed list
 mod error;
 mod job;
@@ -51,7 +51,9 @@ fn judge(words: &[String]) -> bool {
             set => sets.push(set),
         }
     }
-    let wanted = |name: &str| ["gate", "long", name].iter().any(|w| sets.contains(w)) || sets.contains(&"planes") && jobs::of_planes(name);
+    let planes = sets.contains(&"planes");
+    let all = sets.contains(&"gate") || sets.contains(&"long") && !planes;
+    let wanted = |name: &str| all || sets.contains(&name) || planes && jobs::of_planes(name);
     let long = sets.contains(&"long");
     let chosen: Vec<_> = jobs::SETS.iter().filter(|s| wanted(s.0)).map(|&(name, g, l)| (name, count.unwrap_or(if long { l } else { g }))).collect();
     assert!(!chosen.is_empty(), "no such set");
