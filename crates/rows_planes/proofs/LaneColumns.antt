@@ -5,7 +5,7 @@ use mathlib.Core.Path.{_≡_, sym, ap, _∙_}
 use mathlib.Core.List.{List}
 use native.Mathlib.Omega.{arith}
 use native.Mathlib.Nat.{mul-le-mul-left, mul-le-mul-right, lt-of-mul-lt-mul-right}
-use lib.ListN.{length}
+use lib.ListN.{length, getD}
 use Rattle.arithmetic.specs.Word.{wrapAdd}
 use Rattle.arithmetic.specs.FixedPoint.{MULT, FRAC}
 use Rattle.arithmetic.specs.Sum.{sum}
@@ -19,6 +19,11 @@ use Rattle.rows_planes.specs.Inner.{byteOf, NextAsks, NextIs}
 pub byteOf-byte : (lanes : ℕ) (s : List ℕ) → Bytes s → (k i : ℕ) → byteOf lanes s k i ≤ 255
 unfolding byteOf
 byteOf-byte lanes s bytes k i = bytes (lanes * i + k)
+
+-- of one lane, pixel i is byte i
+pub one-byte : (s : List ℕ) (i b : ℕ) → b ≡ getD s i 0 → b ≡ byteOf 1 s 0 i
+unfolding byteOf
+one-byte s i b e = e ∙ ap (λ (t : ℕ). getD s t 0) (let q : i ≡ 1 * i + 0 = omega arith in q)
 
 -- what a column's end leads to
 pub record LaneMade (p : ℕ → ℕ) (n m j v carry : ℕ) : Type 0 where

@@ -1,4 +1,5 @@
 pub mod Summing
 pub mod Storing
 pub mod LaneColumns
+pub mod GrowingRows
 pub mod PlaneHalves

@@ -16,7 +16,7 @@ ghost use Rattle.arithmetic.specs.Table.{tabulate};
 ghost use Rattle.pixels.specs.Refusals.{checkedNumber};
 ghost use Rattle.rows_tests.specs.Tests.{importNumber};
 ghost use Rattle.rows_planes.specs.Planes.{planeHalf};
-ghost use Rattle.rows_planes.specs.Inner.{byteOf, setAll, SumAsks, NextAsks, NextIs, columnValue, columnCarry, PutAsks, PartAsks, betweenValue, BetweenAsks, StandAsks, StandIs, RowAsks, rowWritten};
+ghost use Rattle.rows_planes.specs.Inner.{byteOf, setAll, SumAsks, NextAsks, NextIs, columnValue, columnCarry, PutAsks, PartAsks, betweenValue, BetweenAsks, StandAsks, StandIs, PairAsks, PairIs, RowAsks, rowWritten};
 
 // Byte i as a number.
 fn byte(row: &[u8], i: usize) -> u32
@@ -252,8 +252,63 @@ fn grow_lanes(row: &[u8], lanes: usize, n: usize, m: usize, half: &mut [u32])
     }
 }
 
-// By the lane count.
-fn shrink_by_lanes(row: &[u8], lanes: usize, n: usize, m: usize, half: &mut [u32])
+// Where an output column of one lane stands: the bytes of pixel x and of the next one, and acc of span parts that are the left's.
+struct Pair {
+    left: u32,
+    right: u32,
+    x: usize,
+    acc: usize,
+}
+
+// One column on.
+fn next_pair(row: &[u8], span: usize, step: usize, mut s: Pair) -> Pair
+    requires { ⌜ PairAsks (now row) span step (s .x) (s .acc) ⌝ }
+    ensures { λ r. ⌜ PairIs (now (row .entry)) span step (s .left) (s .right) (s .x) (s .acc) (r .left) (r .right) (r .x) (r .acc) ⌝ }
+{
+    let acc = s.acc;
+    if acc < step {
+        let left = s.right;
+        let x = s.x + 1;
+        return Pair {
+            left,
+            right: byte(row, x + 1),
+            x,
+            acc: acc + span - step,
+        };
+    }
+    s.acc = acc - step;
+    s
+}
+
+// Every column of one lane, its two pixels kept.
+fn grow_lane(row: &[u8], n: usize, m: usize, half: &mut [u32])
+    requires { ⌜ RowAsks (now row) (now half) 1 n m ⌝ }
+    requires { ⌜ n < m ⌝ }
+    ensures { λ _. ⌜ now (half .exit) ≡ rowWritten 1 n m (now (row .entry)) (now (half .entry)) ⌝ }
+{
+    let span = m - 1;
+    let step = n - 1;
+    let left = byte(row, 0);
+    let right = byte(row, 1 % n);
+    let mut s = Pair {
+        left,
+        right,
+        x: 0,
+        acc: span + step,
+    };
+    let mut j = 0usize;
+    while j < m {
+        s = next_pair(row, span, step, s);
+        half[j] = wrapping_add_u32(
+            wrapping_mul(s.left, s.acc as u32),
+            wrapping_mul(s.right, (span - s.acc) as u32),
+        );
+        j += 1;
+    }
+}
+
+// ---- by the lane count
+fn shrink(row: &[u8], lanes: usize, n: usize, m: usize, half: &mut [u32])
     requires { ⌜ RowAsks (now row) (now half) lanes n m ⌝ }
     requires { ⌜ m ≤ n ⌝ }
     ensures { λ _. ⌜ now (half .exit) ≡ rowWritten lanes n m (now (row .entry)) (now (half .entry)) ⌝ }
@@ -263,6 +318,18 @@ fn shrink_by_lanes(row: &[u8], lanes: usize, n: usize, m: usize, half: &mut [u32
         return;
     }
     shrink_lanes(row, lanes, n, m, half);
+}
+
+fn grow(row: &[u8], lanes: usize, n: usize, m: usize, half: &mut [u32])
+    requires { ⌜ RowAsks (now row) (now half) lanes n m ⌝ }
+    requires { ⌜ n < m ⌝ }
+    ensures { λ _. ⌜ now (half .exit) ≡ rowWritten lanes n m (now (row .entry)) (now (half .entry)) ⌝ }
+{
+    if lanes == 1 {
+        grow_lane(row, n, m, half);
+        return;
+    }
+    grow_lanes(row, lanes, n, m, half);
 }
 
 // One row of a plane's crop into a half.
@@ -284,9 +351,9 @@ pub fn import_plane_row(
             let n = crop_width as usize;
             let m = target_width as usize;
             if m <= n {
-                shrink_by_lanes(row, lanes as usize, n, m, half);
+                shrink(row, lanes as usize, n, m, half);
             } else {
-                grow_lanes(row, lanes as usize, n, m, half);
+                grow(row, lanes as usize, n, m, half);
             }
         }
     }

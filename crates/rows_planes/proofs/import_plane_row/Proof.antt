@@ -17,13 +17,13 @@ enum-told c = search needs
 enum-told-2 : tie.Need-enum-told-2
 enum-told-2 c = search needs
 
-shrink-by-lanes-requires : tie.Need-shrink-by-lanes-requires
-shrink-by-lanes-requires c κs =
+shrink-requires : tie.Need-shrink-requires
+shrink-requires c κs =
     let a = (c .before .before .before .before .before .before .before .args) in
     (row-asks (a .lanes) (a .«crop-width») (a .«target-width») (a .row .now) (a .half .now) (λ i. omega (arith, c .before .before .before .before .before .before .shared-slice-known .given i)) (rw (c .before .before .enum-told2 .given .1) at (c .before .before .before .before .check-import .ensures)), c .before .if1 .taken)
 
-grow-lanes-requires : tie.Need-grow-lanes-requires
-grow-lanes-requires c κs =
+grow-requires : tie.Need-grow-requires
+grow-requires c κs =
     let a = (c .before .before .before .before .before .before .before .args) in
     (row-asks (a .lanes) (a .«crop-width») (a .«target-width») (a .row .now) (a .half .now) (λ i. omega (arith, c .before .before .before .before .before .before .shared-slice-known .given i)) (rw (c .before .before .enum-told2 .given .1) at (c .before .before .before .before .check-import .ensures)), c .before .if1 .left)
 
@@ -37,7 +37,7 @@ same-length c = search needs
 returns-2 : tie.Need-returns-2
 returns-2 c =
     let a = (c .before .before .before .before .before .before .before .before .before .before .args) in
-    (c .before .before .before .before .before .before .before .check-import .ensures, by-bytes (a .lanes) (a .«crop-width») (a .«target-width») (a .row .now) (a .half .now) (λ i. omega (arith, c .before .before .before .before .before .before .before .before .before .shared-slice-known .given i)) (rw (c .before .before .before .before .before .enum-told2 .given .1) at (c .before .before .before .before .before .before .before .check-import .ensures)) _ (c .before .before .shrink-by-lanes .ensures))
+    (c .before .before .before .before .before .before .before .check-import .ensures, by-bytes (a .lanes) (a .«crop-width») (a .«target-width») (a .row .now) (a .half .now) (λ i. omega (arith, c .before .before .before .before .before .before .before .before .before .shared-slice-known .given i)) (rw (c .before .before .before .before .before .enum-told2 .given .1) at (c .before .before .before .before .before .before .before .check-import .ensures)) _ (c .before .before .shrink .ensures))
 
 same-length-2 : tie.Need-same-length-2
 same-length-2 c = search needs
@@ -45,7 +45,7 @@ same-length-2 c = search needs
 returns-3 : tie.Need-returns-3
 returns-3 c =
     let a = (c .before .before .before .before .before .before .before .before .before .before .args) in
-    (c .before .before .before .before .before .before .before .check-import .ensures, by-bytes (a .lanes) (a .«crop-width») (a .«target-width») (a .row .now) (a .half .now) (λ i. omega (arith, c .before .before .before .before .before .before .before .before .before .shared-slice-known .given i)) (rw (c .before .before .before .before .before .enum-told2 .given .1) at (c .before .before .before .before .before .before .before .check-import .ensures)) _ (c .before .before .grow-lanes .ensures))
+    (c .before .before .before .before .before .before .before .check-import .ensures, by-bytes (a .lanes) (a .«crop-width») (a .«target-width») (a .row .now) (a .half .now) (λ i. omega (arith, c .before .before .before .before .before .before .before .before .before .shared-slice-known .given i)) (rw (c .before .before .before .before .before .enum-told2 .given .1) at (c .before .before .before .before .before .before .before .check-import .ensures)) _ (c .before .before .grow .ensures))
 
 pub import-plane-row-spec : {M : Type 1} → statement M
 import-plane-row-spec =
@@ -54,8 +54,8 @@ import-plane-row-spec =
     check-import-requires
     enum-told
     enum-told-2
-    shrink-by-lanes-requires
-    grow-lanes-requires
+    shrink-requires
+    grow-requires
     returns
     same-length
     returns-2

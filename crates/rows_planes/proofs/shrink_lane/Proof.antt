@@ -19,7 +19,7 @@ use Rattle.rows.specs.WorkRows.{written}
 use Rattle.rows.proofs.Columns.{made-next}
 use Rattle.rows.proofs.Lanes.{row-value}
 use Rattle.rows_planes.specs.Inner.{byteOf, SumAsks, NextAsks, NextIs, RowAsks, rowWritten}
-use Rattle.rows_planes.proofs.LaneColumns.{byteOf-byte, LaneMade, lane-made, each-small, column-inside, next-longer, next-even, Reads, reads-longer, reads-even}
+use Rattle.rows_planes.proofs.LaneColumns.{byteOf-byte, one-byte, LaneMade, lane-made, each-small, column-inside, next-longer, next-even, Reads, reads-longer, reads-even}
 use borrow.Author.Needs.{needs}
 use Rattle.rows_planes.proofs.shrink_lane.Statement.{statement}
 use Rattle.rows_planes.proofs.shrink_lane.Tie as tie
@@ -43,11 +43,6 @@ first a =
       carry-is = refl;
       stored = none-stored _ (omega (arith, a .room));
     }
-
--- pixel i is byte i
-one-byte : (s : List ℕ) (i b : ℕ) → b ≡ getD s i 0 → b ≡ byteOf 1 s 0 i
-unfolding byteOf
-one-byte s i b e = e ∙ ap (λ (t : ℕ). getD s t 0) (let q : i ≡ 1 * i + 0 = omega arith in q)
 
 module _ {s half₀ half : List ℕ} {n m x over carry j : ℕ} (a : RowAsks s half₀ 1 n m) (shrinks : m ≤ n) (v : Inv s n m half₀ half x over carry j) (below : j < m) where
   module _ (each rest : ℕ) (e : each ≡ n / m) (r : rest ≡ n % m) where

@@ -1,8 +1,8 @@
--- `shrink_by_lanes`: one lane, or several. Assumes nothing.
+-- `shrink`: one lane, or several. Assumes nothing.
 use mathlib.Core.Path.{_≡_, sym}
 use borrow.Author.Needs.{needs}
-use Rattle.rows_planes.proofs.shrink_by_lanes.Statement.{statement}
-use Rattle.rows_planes.proofs.shrink_by_lanes.Tie as tie
+use Rattle.rows_planes.proofs.shrink.Statement.{statement}
+use Rattle.rows_planes.proofs.shrink.Tie as tie
 
 shrink-lane-requires : tie.Need-shrink-lane-requires
 shrink-lane-requires c κs = let e = c .before .if1 .taken in (rw e at (c .before .before .before .before .pre .0), c .before .before .before .before .pre .1)
@@ -22,8 +22,8 @@ same-length-2 c = search needs
 returns-2 : tie.Need-returns-2
 returns-2 c = c .before .before .shrink-lanes .ensures
 
-pub shrink-by-lanes-spec : {M : Type 1} → statement M
-shrink-by-lanes-spec =
+pub shrink-spec : {M : Type 1} → statement M
+shrink-spec =
     tie.close
     (tie.spec
     shrink-lane-requires
