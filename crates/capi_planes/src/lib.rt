@@ -10,7 +10,7 @@ use pixels::Dimensions;
 use pixels::Rect;
 ghost use mathlib.Core.Path.{_≡_};
 ghost use lib.ListN.{length};
-ghost use Rattle.capi_planes.specs.Planes.{numberOfPlane, workAfterPlane, recordAfterPlane, numberOfPlanes, workOfPlanes, recordOfPlanes};
+ghost use Rattle.capi_planes.specs.Planes.{numberOfPlane, workAfterPlane, recordAfterPlane, numberOfPlanes, lumaWorkAfterPlanes, cbWorkAfterPlanes, crWorkAfterPlanes, lumaAfterPlanes, cbAfterPlanes, crAfterPlanes};
 
 // A fresh job of a plane of so many lanes: its record in lent words, and the work rows cleared.
 // Rules out: source and target exchanged; thirteen words enough for the record.
@@ -27,7 +27,11 @@ pub extern "C" fn jonquilsaw_start_plane(
     target_height: u32,
     work: &mut [u32],
     record: &mut [u32],
-) -> u32 {
+) -> u32
+    ensures number { λ r. ⌜ r ≡ numberOfPlane «source_width» «source_height» lanes «crop_x» «crop_y» «crop_width» «crop_height» «target_width» «target_height» (length (now (work .entry))) (length (now («record» .entry))) ⌝ }
+    ensures work { λ _. ⌜ now (work .exit) ≡ workAfterPlane «source_width» «source_height» lanes «crop_x» «crop_y» «crop_width» «crop_height» «target_width» «target_height» (now (work .entry)) (length (now («record» .entry))) ⌝ }
+    ensures record { λ _. ⌜ now («record» .exit) ≡ recordAfterPlane «source_width» «source_height» lanes «crop_x» «crop_y» «crop_width» «crop_height» «target_width» «target_height» (length (now (work .entry))) (now («record» .entry)) ⌝ }
+{
     if record.len() < RECORD_WORDS {
         return BOUNDARY;
     }
@@ -69,7 +73,15 @@ pub extern "C" fn jonquilsaw_start_planes(
     luma: &mut [u32],
     cb: &mut [u32],
     cr: &mut [u32],
-) -> u32 {
+) -> u32
+    ensures number { λ r. ⌜ r ≡ numberOfPlanes «source_width» «source_height» «target_width» «target_height» (length (now («luma_work» .entry))) (length (now («cb_work» .entry))) (length (now («cr_work» .entry))) (length (now (luma .entry))) (length (now (cb .entry))) (length (now (cr .entry))) ⌝ }
+    ensures luma_work { λ _. ⌜ now («luma_work» .exit) ≡ lumaWorkAfterPlanes «source_width» «source_height» «target_width» «target_height» (now («luma_work» .entry)) (length (now («cb_work» .entry))) (length (now («cr_work» .entry))) (length (now (luma .entry))) (length (now (cb .entry))) (length (now (cr .entry))) ⌝ }
+    ensures cb_work { λ _. ⌜ now («cb_work» .exit) ≡ cbWorkAfterPlanes «source_width» «source_height» «target_width» «target_height» (length (now («luma_work» .entry))) (now («cb_work» .entry)) (length (now («cr_work» .entry))) (length (now (luma .entry))) (length (now (cb .entry))) (length (now (cr .entry))) ⌝ }
+    ensures cr_work { λ _. ⌜ now («cr_work» .exit) ≡ crWorkAfterPlanes «source_width» «source_height» «target_width» «target_height» (length (now («luma_work» .entry))) (length (now («cb_work» .entry))) (now («cr_work» .entry)) (length (now (luma .entry))) (length (now (cb .entry))) (length (now (cr .entry))) ⌝ }
+    ensures luma { λ _. ⌜ now (luma .exit) ≡ lumaAfterPlanes «source_width» «source_height» «target_width» «target_height» (length (now («luma_work» .entry))) (length (now («cb_work» .entry))) (length (now («cr_work» .entry))) (now (luma .entry)) (length (now (cb .entry))) (length (now (cr .entry))) ⌝ }
+    ensures cb { λ _. ⌜ now (cb .exit) ≡ cbAfterPlanes «source_width» «source_height» «target_width» «target_height» (length (now («luma_work» .entry))) (length (now («cb_work» .entry))) (length (now («cr_work» .entry))) (length (now (luma .entry))) (now (cb .entry)) (length (now (cr .entry))) ⌝ }
+    ensures cr { λ _. ⌜ now (cr .exit) ≡ crAfterPlanes «source_width» «source_height» «target_width» «target_height» (length (now («luma_work» .entry))) (length (now («cb_work» .entry))) (length (now («cr_work» .entry))) (length (now (luma .entry))) (length (now (cb .entry))) (now (cr .entry)) ⌝ }
+{
     if luma.len() < RECORD_WORDS {
         return BOUNDARY;
     }

@@ -110,7 +110,7 @@ fn job_of(words: &[u32]) -> Job
 }
 
 // The record that words tell; whether it meets the rules is for the job to say.
-// Rules out: a record of eleven words; a flag word of 2 read as a flag; two words exchanged.
+// Rules out: a record of thirteen words; a flag word or a kind word of 2 taken; two words exchanged.
 pub fn read_job(words: &[u32]) -> Told
     ensures { λ r. ⌜ r ≡ toldBy (now (words .entry)) ⌝ }
 {
