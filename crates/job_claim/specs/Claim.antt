@@ -114,12 +114,12 @@ pub record Claim (p : Plan) (given : List ℕ) (r : Run) : Type 0 where
   pub near-alpha : p .kind ≡ Picture → Bounded p → (y : ℕ) → y < r .seen .taken → (j : ℕ) → j < p .target .width
       → Near (takenByte p r alphaLane j y) (exactOf p r alphaLane j y) (totalOf p)
   pub near-colour : p .kind ≡ Picture → Bounded p → (y : ℕ) → y < r .seen .taken → (j : ℕ) → j < p .target .width
-      → takenByte p r alphaLane j y ≡ 255 → (k : ℕ) → k < alphaLane
-      → Near (takenByte p r k j y) (exactOf p r k j y) (totalOf p)
+      → takenByte p r alphaLane j y ≡ 255
+      → (k : ℕ) → k < alphaLane → Near (takenByte p r k j y) (exactOf p r k j y) (totalOf p)
   pub near-plane : p .kind ≡ Plane → Bounded p → (y : ℕ) → y < r .seen .taken → (j : ℕ) → j < p .target .width → (k : ℕ) → k < lanesOf p
       → Near (takenByte p r k j y) (exactOf p r k j y) (totalOf p)
-  -- 6. once all rows of a picture are taken they are the pixels, and the flag the flag, of crop then resize, of every picture that begins with the accepted bytes: rows below
-  -- the crop may not have been accepted yet
+  -- 6. once all rows of a picture are taken they are the pixels, and the flag the flag, of crop then resize, of every picture that begins with the accepted
+  -- bytes: rows below the crop may not have been accepted yet
   pub whole : p .kind ≡ Picture → r .seen .taken ≡ p .target .height → (more : List ℕ)
       → joined (r .seen .rows) ≡ resized (sizeOf (p .crop .width) (p .crop .height)) (p .layout) (p .target) (cropped (p .source) (p .crop) (r .seen .source ++ more))
   pub whole-flag : p .kind ≡ Picture → r .seen .taken ≡ p .target .height → (more : List ℕ)
