@@ -61,10 +61,6 @@ read-small : (form : RowForm) (bytes : ℕ → ℕ) (k : ℕ) → readAs form by
 read-small (Pixels layout) bytes k = lane-byte (multArgb (pixelOf bytes) false) k
 read-small (Plain lanes) bytes k = omega arith
 
-pub read-cong : (form : RowForm) (bytes bytes' : ℕ → ℕ) (k : ℕ) → k < lanesIn form → ((k' : ℕ) → k' < lanesIn form → bytes k' ≡ bytes' k') → readAs form bytes k ≡ readAs form bytes' k
-read-cong (Pixels layout) bytes bytes' k l same = ap (λ (t : ℕ). laneOf (multArgb t false) k) (pixel-cong bytes bytes' same)
-read-cong (Plain lanes) bytes bytes' k l same = ap (λ (t : ℕ). t % 256) (same k l)
-
 -- lanes that agree on a row are handed out as the same row
 pub out-cong : (form : RowForm) (v w : ℕ → ℕ) (m z : ℕ) → z < rowBytes (lanesIn form) m → ((x : ℕ) → x < halfValues (lanesIn form) m → v x ≡ w x) → placeOut form v z ≡ placeOut form w z
 out-cong (Pixels layout) v w m z l same = restored-cong layout v w m z l same

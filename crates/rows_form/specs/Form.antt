@@ -1,5 +1,5 @@
 -- What a row's bytes are, and what the scaler reads and hands out of them (SCOPE, "Lanes" and "Planes"): the pixels of a picture, matted and restored, or the
--- lanes of a plane, "scaled without matting or packing". k counts lanes, i pixels. Assumes nothing.
+-- lanes of a plane, "without matting or packing". k counts lanes, i pixels. Assumes nothing.
 use Prim.Native.Nat.{ℕ, _+_, _*_, _%_}
 use mathlib.Core.Bool.{Bool, false}
 use mathlib.Core.List.{List}

@@ -64,12 +64,16 @@ put-source-row-requires c κs = search needs
 add-i : tie.Need-add-i Inv-loop μ-loop
 add-i c =
     let a = (c .before .before .before .before .before .before .before .before .before .before .before .before .before .args) in
-    omega (arith, in-range (a .j) (a .rows .now) (a .work .now) _ ((c .before .before .before .before .before .before .before .before .before .before .before .before .before .pre)) (c .before .before .before .before .before .before .before .before .most-rows .ensures) (c .before .before .before .before .before .before .loop .work) (c .before .before .before .before .before .before .loop .i) (c .before .before .before .before .before .before .loop .inv))
+    let pre = c .before .before .before .before .before .before .before .before .before .before .before .before .before .pre in
+    let l = c .before .before .before .before .before .before .loop in
+    omega (arith, in-range (a .j) (a .rows .now) (a .work .now) _ pre (c .before .before .before .before .before .before .before .before .most-rows .ensures) (l .work) (l .i) (l .inv))
 
 add-rows-by : tie.Need-add-rows-by Inv-loop μ-loop
 add-rows-by c =
     let a = (c .before .before .before .before .before .before .before .before .before .before .before .before .before .before .before .args) in
-    omega (arith, in-range (a .j) (a .rows .now) (a .work .now) _ ((c .before .before .before .before .before .before .before .before .before .before .before .before .before .before .before .pre)) (c .before .before .before .before .before .before .before .before .before .before .most-rows .ensures) (c .before .before .before .before .before .before .before .before .loop .work) (c .before .before .before .before .before .before .before .before .loop .i) (c .before .before .before .before .before .before .before .before .loop .inv))
+    let pre = c .before .before .before .before .before .before .before .before .before .before .before .before .before .before .before .pre in
+    let l = c .before .before .before .before .before .before .before .before .loop in
+    omega (arith, in-range (a .j) (a .rows .now) (a .work .now) _ pre (c .before .before .before .before .before .before .before .before .before .before .most-rows .ensures) (l .work) (l .i) (l .inv))
 
 rows-by-requires : tie.Need-rows-by-requires Inv-loop μ-loop
 rows-by-requires c κs = search needs

@@ -1,3 +1,4 @@
+-- A count is outside 1 to 4 where it is 0 or passes the most there are. Assumes nothing.
 use Rattle.pixels.specs.Sizes.{badLanes}
 use borrow.Author.Tests.{eq-eqb, ne-eqb}
 use Rattle.pixels_sizes.proofs.bad_lanes.Statement.{statement}

@@ -1,3 +1,4 @@
+-- Both edges in 64 bits, so that no sum wraps; each return is the law of `cropOutside` for the edge that failed. Assumes nothing.
 use Rattle.pixels.proofs.Fitting.{beyond-right, beyond-bottom}
 use mathlib.Core.Path.{sym}
 use borrow.Author.Needs.{needs}

@@ -1,3 +1,4 @@
+-- Each return is the law of `wrongSizes` for the first size that failed. Assumes nothing.
 use Rattle.pixels.proofs.Fitting.{empty-width, wrong-source, wrong-target, wrong-crop}
 use Rattle.pixels.specs.Sizes.{emptyCrop}
 use borrow.Author.Tests.{ne-eqb}

@@ -119,7 +119,11 @@ loop-less : tie.Need-loop-less Inv-loop μ-loop
 loop-less c = search needs
 
 loop-again : tie.Need-loop-again Inv-loop μ-loop
-loop-again c = turn ((c .before .before .before .before .before .before .before .before .before .before .before .before .pre)) (c .before .before .before .before .before .before .before .before .before .loop .inv) _ _ _ _ _ _ (c .before .before .before .before .before .before .before .before .loop-test .taken) refl (c .before .before .before .before .before .lane-sum .ensures) (c .before .before .before .before .wrapping-add-u32 .ensures) (c .before .before .byte .ensures .0) (c .finish .ensures)
+loop-again c =
+    let asks = c .before .before .before .before .before .before .before .before .before .before .before .before .pre in
+    let inv = c .before .before .before .before .before .before .before .before .before .loop .inv in
+    let more = c .before .before .before .before .before .before .before .before .loop-test .taken in
+    turn asks inv _ _ _ _ _ _ more refl (c .before .before .before .before .before .lane-sum .ensures) (c .before .before .before .before .wrapping-add-u32 .ensures) (c .before .before .byte .ensures .0) (c .finish .ensures)
 
 same-length : tie.Need-same-length Inv-loop μ-loop
 same-length c = same-half ((c .before .before .before .before .pre)) (c .before .loop .inv)

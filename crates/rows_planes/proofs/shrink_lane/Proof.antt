@@ -158,7 +158,12 @@ wrapping-add-u32-requires-2 : tie.Need-wrapping-add-u32-requires-2 Inv-loop μ-l
 wrapping-add-u32-requires-2 c κs = search needs
 
 add-x-2 : tie.Need-add-x-2 Inv-loop μ-loop
-add-x-2 c = omega (arith, longer-in (c .before .before .before .before .before .before .before .before .before .before .pre .0) (c .before .before .before .before .before .before .before .before .before .before .pre .1) (c .before .before .before .before .before .before .loop .inv) (c .before .before .before .before .before .loop-test .taken) _ _ refl refl (c .before .before .if1 .taken), c .before .before .before .before .before .before .before .before .before .before .pre .0 .n-small)
+add-x-2 c =
+    let asks = c .before .before .before .before .before .before .before .before .before .before .pre .0 in
+    let by-width = c .before .before .before .before .before .before .before .before .before .before .pre .1 in
+    let inv = c .before .before .before .before .before .before .loop .inv in
+    let more = c .before .before .before .before .before .loop-test .taken in
+    omega (arith, longer-in asks by-width inv more _ _ refl refl (c .before .before .if1 .taken), asks .n-small)
 
 add-over : tie.Need-add-over Inv-loop μ-loop
 add-over c = omega (arith, c .before .before .before .before .before .before .loop .inv .over-small, c .before .before .before .before .before .before .before .before .before .before .pre .0 .m-small)
@@ -173,10 +178,19 @@ cast-finish-2 : tie.Need-cast-finish-2 Inv-loop μ-loop
 cast-finish-2 c = omega (arith, read (c .before) .next-is .over-small, c .before .before .before .before .before .before .before .before .before .pre .0 .m-small)
 
 sub-byte : tie.Need-sub-byte Inv-loop μ-loop
-sub-byte c = some (c .before .before .before .before .before .before .before .before .before .before .pre .0) (c .before .before .before .before .before .before .before .before .before .before .pre .1) (c .before .before .before .before .before .before .loop .inv) (c .before .before .before .before .before .loop-test .taken) _ _ refl refl (read (c .before .before))
+sub-byte c =
+    let asks = c .before .before .before .before .before .before .before .before .before .before .pre .0 in
+    let no-wider = c .before .before .before .before .before .before .before .before .before .before .pre .1 in
+    some asks no-wider (c .before .before .before .before .before .before .loop .inv) (c .before .before .before .before .before .loop-test .taken) _ _ refl refl (read (c .before .before))
 
 byte-requires-2 : tie.Need-byte-requires-2 Inv-loop μ-loop
-byte-requires-2 c κs = omega (arith, some (c .before .before .before .before .before .before .before .before .before .before .pre .0) (c .before .before .before .before .before .before .before .before .before .before .pre .1) (c .before .before .before .before .before .before .loop .inv) (c .before .before .before .before .before .loop-test .taken) _ _ refl refl (read (c .before .before)), in-row (c .before .before .before .before .before .before .before .before .before .before .pre .0) (c .before .before .before .before .before .before .before .before .before .before .pre .1) (c .before .before .before .before .before .before .loop .inv) (c .before .before .before .before .before .loop-test .taken) _ _ refl refl (read (c .before .before)), c .before .before .before .before .before .before .before .before .before .before .pre .0 .whole)
+byte-requires-2 c κs =
+    let asks = c .before .before .before .before .before .before .before .before .before .before .pre .0 in
+    let no-wider = c .before .before .before .before .before .before .before .before .before .before .pre .1 in
+    let inv = c .before .before .before .before .before .before .loop .inv in
+    let more = c .before .before .before .before .before .loop-test .taken in
+    let reads = read (c .before .before) in
+    omega (arith, some asks no-wider inv more _ _ refl refl reads, in-row asks no-wider inv more _ _ refl refl reads, asks .whole)
 
 finish-requires : tie.Need-finish-requires Inv-loop μ-loop
 finish-requires c κs = search needs
@@ -194,7 +208,12 @@ loop-less : tie.Need-loop-less Inv-loop μ-loop
 loop-less c = omega (arith, c .before .before .before .before .before .before .before .loop-test .taken)
 
 loop-again : tie.Need-loop-again Inv-loop μ-loop
-loop-again c = turn (c .before .before .before .before .before .before .before .before .before .before .before .before .pre .0) (c .before .before .before .before .before .before .before .before .before .before .before .before .pre .1) (c .before .before .before .before .before .before .before .before .loop .inv) (c .before .before .before .before .before .before .before .loop-test .taken) _ _ refl refl (read (c .before .before .before .before)) _ _ _ _ (c .before .before .before .before .before .before .before .before .before .frac .ensures) (c .before .byte2 .ensures .0) (c .finish .ensures)
+loop-again c =
+    let asks = c .before .before .before .before .before .before .before .before .before .before .before .before .pre .0 in
+    let no-wider = c .before .before .before .before .before .before .before .before .before .before .before .before .pre .1 in
+    let inv = c .before .before .before .before .before .before .before .before .loop .inv in
+    let more = c .before .before .before .before .before .before .before .loop-test .taken in
+    turn asks no-wider inv more _ _ refl refl (read (c .before .before .before .before)) _ _ _ _ (c .before .before .before .before .before .before .before .before .before .frac .ensures) (c .before .byte2 .ensures .0) (c .finish .ensures)
 
 same-length : tie.Need-same-length Inv-loop μ-loop
 same-length c = same (c .before .loop .inv .stored)

@@ -151,7 +151,12 @@ loop-less : tie.Need-loop-less Inv-loop μ-loop
 loop-less c = omega (arith, c .before .before .before .before .before .before .loop-test .taken)
 
 loop-again : tie.Need-loop-again Inv-loop μ-loop
-loop-again c = turn (c .before .before .before .before .before .before .before .before .before .before .before .pre .0) (c .before .before .before .before .before .before .before .before .before .before .before .pre .1) (c .before .before .before .before .before .before .before .loop .inv) (c .before .before .before .before .before .next-column .ensures) (c .before .before .before .before .before .before .loop-test .taken) _ (c .before .before .before .before .before .before .before .before .frac .ensures) _ _ (c .before .before .put-column .ensures .1) (c .before .before .put-column .ensures .0)
+loop-again c =
+    let asks = c .before .before .before .before .before .before .before .before .before .before .before .pre .0 in
+    let by-width = c .before .before .before .before .before .before .before .before .before .before .before .pre .1 in
+    let inv = c .before .before .before .before .before .before .before .loop .inv in
+    let more = c .before .before .before .before .before .before .loop-test .taken in
+    turn asks by-width inv (c .before .before .before .before .before .next-column .ensures) more _ (c .before .before .before .before .before .before .before .before .frac .ensures) _ _ (c .before .before .put-column .ensures .1) (c .before .before .put-column .ensures .0)
 
 same-length : tie.Need-same-length Inv-loop μ-loop
 same-length c = same (c .before .loop .inv .stored)

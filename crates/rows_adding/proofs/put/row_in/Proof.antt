@@ -48,9 +48,11 @@ same-length c = search needs
 returns : tie.Need-returns
 returns c =
     let a = (c .before .before .before .before .before .before .before .before .before .before .before .before .args) in
+    let pre = c .before .before .before .before .before .before .before .before .before .before .before .before .pre in
+    let half = c .before .before .before .before .before .before .before .half-for .result in
     let at = rw (c .before .before .before .before .before .before .before .before .before .lanes .ensures) at (c .before .before .before .before .before .before .before .half-for .ensures) in
-    let next = row-next (a .form) (a .crop) (a .target) (a .c) (a .row .now) (a .work .now) ((c .before .before .before .before .before .before .before .before .before .before .before .before .pre)) (c .before .before .before .before .before .before .before .half-for .result) at _ (c .before .before .before .before .before .import-in .ensures) in
-    row-grows (a .form) (a .crop) (a .target) (a .c) (a .row .now) (a .work .now) ((c .before .before .before .before .before .before .before .before .before .before .before .before .pre)) (c .before .before .before .before .before .before .before .half-for .result) at _ next (c .if1 .taken)
+    let next = row-next (a .form) (a .crop) (a .target) (a .c) (a .row .now) (a .work .now) pre half at _ (c .before .before .before .before .before .import-in .ensures) in
+    row-grows (a .form) (a .crop) (a .target) (a .c) (a .row .now) (a .work .now) pre half at _ next (c .if1 .taken)
 
 add-halves-requires : tie.Need-add-halves-requires
 add-halves-requires c κs = search needs
@@ -61,9 +63,11 @@ same-length-2 c = search needs
 returns-2 : tie.Need-returns-2
 returns-2 c =
     let a = (c .before .before .before .before .before .before .before .before .before .before .before .before .before .before .before .before .args) in
+    let pre = c .before .before .before .before .before .before .before .before .before .before .before .before .before .before .before .before .pre in
+    let half = c .before .before .before .before .before .before .before .before .before .before .before .half-for .result in
     let at = rw (c .before .before .before .before .before .before .before .before .before .before .before .before .before .lanes .ensures) at (c .before .before .before .before .before .before .before .before .before .before .before .half-for .ensures) in
-    let next = row-next (a .form) (a .crop) (a .target) (a .c) (a .row .now) (a .work .now) ((c .before .before .before .before .before .before .before .before .before .before .before .before .before .before .before .before .pre)) (c .before .before .before .before .before .before .before .before .before .before .before .half-for .result) at _ (c .before .before .before .before .before .before .before .before .before .import-in .ensures) in
-    row-adds (a .form) (a .crop) (a .target) (a .c) (a .row .now) (a .work .now) ((c .before .before .before .before .before .before .before .before .before .before .before .before .before .before .before .before .pre)) (c .before .before .before .before .before .before .before .before .before .before .before .half-for .result) at _ next (c .before .before .before .before .if1 .left) _ (rw (c .before .before .before .before .before .before .before .before .before .before .before .before .before .lanes .ensures) at (c .before .before .add-halves .ensures .1))
+    let next = row-next (a .form) (a .crop) (a .target) (a .c) (a .row .now) (a .work .now) pre half at _ (c .before .before .before .before .before .before .before .before .before .import-in .ensures) in
+    row-adds (a .form) (a .crop) (a .target) (a .c) (a .row .now) (a .work .now) pre half at _ next (c .before .before .before .before .if1 .left) _ (rw (c .before .before .before .before .before .before .before .before .before .before .before .before .before .lanes .ensures) at (c .before .before .add-halves .ensures .1))
 
 pub row-in-spec : {M : Type 1} → statement M
 row-in-spec =
