@@ -30,7 +30,7 @@ fn span(n: u32, m: u32) -> u32
 }
 
 // Makes output row `row` (SCOPE's Y) of a crop of which `used` rows came in, so many lanes a pixel, none of them restored yet.
-// Rules out: a lane less for each pixel; a span of the whole target where the width grows.
+// Rules out: half of the row's values; a span of the whole target where the width grows.
 pub fn scale_row(
     lanes: u32,
     crop: Dimensions,
@@ -73,7 +73,7 @@ fn finish_row(form: RowForm, width: u32, out: &mut [u8]) -> Flagged
 }
 
 // Makes output row `row` (SCOPE's Y), of which `accepted` source rows came in; returns the row's alpha flag.
-// Rules out: the first row again and again; a row made of no crop rows; the flag of the row dropped.
+// Rules out: the first row again and again; a row made of no crop rows; the flag of the row dropped; a flag of every plane's row.
 pub fn take_row(
     form: RowForm,
     crop: Rect,

@@ -333,7 +333,8 @@ fn grow(row: &[u8], lanes: usize, n: usize, m: usize, half: &mut [u32])
 }
 
 // One row of a plane's crop into a half.
-// Rules out: a carry rounded down; a lane read at the next one's place; the whole last pixel taken off; 10 not told.
+// Rules out: the whole last pixel carried to the next column; every lane read at the first one's place; a column a pixel short; the parts of a growing column
+// exchanged; a pixel past the crop read.
 pub fn import_plane_row(
     lanes: u32,
     crop_width: u32,
