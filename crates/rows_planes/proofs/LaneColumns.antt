@@ -14,16 +14,8 @@ use Rattle.rows.specs.Column as column
 use Rattle.rows.specs.Column.{Finished, value}
 use Rattle.rows.specs.Inner.Import.{Bytes}
 use Rattle.rows.proofs.Columns.{value-shrink, made-next, value-of, carry-of, carry-byte, lane-column}
-use Rattle.rows_planes.specs.Inner.{byteOf, NextAsks, NextIs}
-
-pub byteOf-byte : (lanes : ℕ) (s : List ℕ) → Bytes s → (k i : ℕ) → byteOf lanes s k i ≤ 255
-unfolding byteOf
-byteOf-byte lanes s bytes k i = bytes (lanes * i + k)
-
--- of one lane, pixel i is byte i
-pub one-byte : (s : List ℕ) (i b : ℕ) → b ≡ getD s i 0 → b ≡ byteOf 1 s 0 i
-unfolding byteOf
-one-byte s i b e = e ∙ ap (λ (t : ℕ). getD s t 0) (let q : i ≡ 1 * i + 0 = omega arith in q)
+use Rattle.rows_widening.specs.Inner.{byteOf}
+use Rattle.rows_planes.specs.Inner.{NextAsks, NextIs}
 
 -- what a column's end leads to
 pub record LaneMade (p : ℕ → ℕ) (n m j v carry : ℕ) : Type 0 where

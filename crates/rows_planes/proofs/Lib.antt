@@ -1,5 +1,3 @@
 pub mod Summing
-pub mod Storing
 pub mod LaneColumns
-pub mod GrowingRows
 pub mod PlaneHalves

@@ -8,7 +8,8 @@ use native.Mathlib.Numerals.{add-one}
 use lib.ListN.{length, getD}
 use Rattle.arithmetic.specs.Sum.{sum}
 use Rattle.arithmetic.proofs.Sums.{sum-zero, sum-suc}
-use Rattle.rows_planes.specs.Inner.{byteOf, SumAsks}
+use Rattle.rows_widening.specs.Inner.{byteOf}
+use Rattle.rows_planes.specs.Inner.{SumAsks}
 
 pub record Summing (s : List ℕ) (lanes k from count total p i : ℕ) : Type 0 where
   pub so-far : i ≤ count

@@ -3,15 +3,8 @@ use Prim.Native.Nat.{ℕ}
 use mathlib.Core.List.{List}
 use lib.ListN.{length}
 use Rattle.pixels.specs.Refusals.{bufferIf}
-use Rattle.pixels.specs.Sizes.{halfValues}
 use Rattle.rows_tests.specs.Tests.{importNumber}
-use Rattle.rows_form.specs.Form.{plain}
-use Rattle.rows.specs.Lanes.{rowValue}
-use Rattle.rows.specs.WorkRows.{written}
-
--- the values of the row's lanes, over the beginning of the half
-abbrev pub planeWritten : ℕ → ℕ → ℕ → List ℕ → List ℕ → List ℕ
-planeWritten lanes n m row half = written (halfValues lanes m) (rowValue lanes (plain lanes row) n m) half
+use Rattle.rows_widening.specs.Widening.{planeWritten}
 
 -- the half after the call: as it was where the row is turned away
 unfoldable pub planeHalf : ℕ → ℕ → ℕ → List ℕ → List ℕ → List ℕ

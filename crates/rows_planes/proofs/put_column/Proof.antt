@@ -11,8 +11,9 @@ use Rattle.arithmetic.specs.FixedPoint.{MULT}
 use Rattle.arithmetic.specs.Sum.{sum}
 use Rattle.arithmetic.proofs.Stores.{Stored, none-stored, store, same, ahead, all-stored}
 use Rattle.rows.specs.Column.{Finished}
-use Rattle.rows_planes.specs.Inner.{byteOf, setAll, SumAsks, columnValue, columnCarry, PutAsks}
-use Rattle.rows_planes.proofs.Storing.{setAll-none, setAll-more, setAll-length}
+use Rattle.rows_widening.specs.Inner.{byteOf, setAll}
+use Rattle.rows_planes.specs.Inner.{SumAsks, columnValue, columnCarry, PutAsks}
+use Rattle.rows_widening.proofs.Storing.{setAll-none, setAll-more, setAll-length}
 use borrow.Author.Needs.{needs}
 use Rattle.rows_planes.proofs.put_column.Statement.{statement}
 use Rattle.rows_planes.proofs.put_column.Tie as tie

@@ -18,8 +18,10 @@ use Rattle.rows.specs.Lanes.{rowValue}
 use Rattle.rows.specs.WorkRows.{written}
 use Rattle.rows.proofs.Columns.{made-next}
 use Rattle.rows.proofs.Lanes.{row-value}
-use Rattle.rows_planes.specs.Inner.{byteOf, SumAsks, NextAsks, NextIs, RowAsks, rowWritten}
-use Rattle.rows_planes.proofs.LaneColumns.{byteOf-byte, one-byte, LaneMade, lane-made, each-small, column-inside, next-longer, next-even, Reads, reads-longer, reads-even}
+use Rattle.rows_widening.specs.Inner.{byteOf, RowAsks, rowWritten}
+use Rattle.rows_planes.specs.Inner.{SumAsks, NextAsks, NextIs}
+use Rattle.rows_widening.proofs.RowBytes.{byteOf-byte, one-byte}
+use Rattle.rows_planes.proofs.LaneColumns.{LaneMade, lane-made, each-small, column-inside, next-longer, next-even, Reads, reads-longer, reads-even}
 use borrow.Author.Needs.{needs}
 use Rattle.rows_planes.proofs.shrink_lane.Statement.{statement}
 use Rattle.rows_planes.proofs.shrink_lane.Tie as tie

@@ -15,9 +15,11 @@ use Rattle.rows.specs.Column as column
 use Rattle.rows.specs.Lanes.{rowValue}
 use Rattle.rows.proofs.Columns.{made-next}
 use Rattle.rows.proofs.Lanes.{row-value}
-use Rattle.rows_planes.specs.Inner.{byteOf, setAll, NextAsks, NextIs, columnValue, columnCarry, PutAsks, RowAsks, rowWritten}
-use Rattle.rows_planes.proofs.Storing.{stored-all}
-use Rattle.rows_planes.proofs.LaneColumns.{byteOf-byte, LaneMade, lane-made, column-inside}
+use Rattle.rows_widening.specs.Inner.{byteOf, setAll, RowAsks, rowWritten}
+use Rattle.rows_planes.specs.Inner.{NextAsks, NextIs, columnValue, columnCarry, PutAsks}
+use Rattle.rows_widening.proofs.Storing.{stored-all}
+use Rattle.rows_widening.proofs.RowBytes.{byteOf-byte}
+use Rattle.rows_planes.proofs.LaneColumns.{LaneMade, lane-made, column-inside}
 use borrow.Author.Needs.{needs}
 use Rattle.rows_planes.proofs.shrink_lanes.Statement.{statement}
 use Rattle.rows_planes.proofs.shrink_lanes.Tie as tie

@@ -3,9 +3,9 @@ use Prim.Native.Nat.{_-_}
 use native.Mathlib.Omega.{arith}
 use native.Mathlib.Nat.{mul-le-mul}
 use Rattle.arithmetic.proofs.Stores.{same}
-use Rattle.rows_planes.proofs.GrowingRows.{Growing, growing-first, growing-stands, growing-right, growing-between, growing-turn, growing-done}
-use Rattle.rows_planes.proofs.grow_lanes.Statement.{statement}
-use Rattle.rows_planes.proofs.grow_lanes.Tie as tie
+use Rattle.rows_widening.proofs.GrowingRows.{Growing, growing-first, growing-stands, growing-right, growing-between, growing-turn, growing-done}
+use Rattle.rows_widening.proofs.grow_lanes.Statement.{statement}
+use Rattle.rows_widening.proofs.grow_lanes.Tie as tie
 
 abbrev Inv-loop : tie.InvT-loop
 Inv-loop row lanes n m half₀ span step one s₀ j₀ half s j = Growing row lanes n m half₀ half (s .x) (s .acc) j

@@ -5,8 +5,8 @@ use mathlib.Core.Path.{_≡_, refl, ap, _∙_}
 use mathlib.Core.List.{List}
 use native.Mathlib.Omega.{arith}
 use lib.ListN.{getD}
-use Rattle.rows_planes.proofs.next_pair.Statement.{statement}
-use Rattle.rows_planes.proofs.next_pair.Tie as tie
+use Rattle.rows_widening.proofs.next_pair.Statement.{statement}
+use Rattle.rows_widening.proofs.next_pair.Tie as tie
 
 next-byte : (s : List ℕ) (x b : ℕ) → b ≡ getD s (x + 1 + 1) 0 → b ≡ getD s (suc (suc x)) 0
 next-byte s x b e = e ∙ ap (λ (t : ℕ). getD s t 0) (omega arith)

@@ -12,9 +12,9 @@ use Rattle.rows.specs.Column.{value}
 use Rattle.rows.specs.Lanes.{rowValue}
 use Rattle.rows.proofs.Columns.{lane-grown}
 use Rattle.rows.proofs.Lanes.{row-value}
-use Rattle.rows_planes.specs.Inner.{byteOf, setAll, betweenValue, BetweenAsks, StandAsks, StandIs, RowAsks, rowWritten}
-use Rattle.rows_planes.proofs.Storing.{stored-all}
-use Rattle.rows_planes.proofs.LaneColumns.{byteOf-byte}
+use Rattle.rows_widening.specs.Inner.{byteOf, setAll, betweenValue, BetweenAsks, StandAsks, StandIs, RowAsks, rowWritten}
+use Rattle.rows_widening.proofs.Storing.{stored-all}
+use Rattle.rows_widening.proofs.RowBytes.{byteOf-byte}
 
 pub record Growing (s : List ℕ) (lanes n m : ℕ) (half₀ half : List ℕ) (x acc j : ℕ) : Type 0 where
   pub so-far : j ≤ m

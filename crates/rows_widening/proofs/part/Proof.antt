@@ -4,10 +4,10 @@ use mathlib.Core.Path.{ap, _∙_}
 use native.Mathlib.Omega.{arith}
 use native.Mathlib.Nat.{mul-le-mul}
 use Rattle.arithmetic.specs.Word.{wrapMul}
-use Rattle.rows_planes.specs.Inner.{byteOf}
+use Rattle.rows_widening.specs.Inner.{byteOf}
 use borrow.Author.Needs.{needs}
-use Rattle.rows_planes.proofs.part.Statement.{statement}
-use Rattle.rows_planes.proofs.part.Tie as tie
+use Rattle.rows_widening.proofs.part.Statement.{statement}
+use Rattle.rows_widening.proofs.part.Tie as tie
 
 mul-byte : tie.Need-mul-byte
 mul-byte c = let q = (c .before .pre) in omega (arith, mul-le-mul {n₁ = c .before .args .lanes} {m₁ = c .before .args .x} {n₂ = 4} {m₂ = 16384} (q .lanes-small) (omega (arith, q .x-small)))

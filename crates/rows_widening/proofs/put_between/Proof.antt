@@ -7,11 +7,11 @@ use native.Mathlib.Omega.{arith}
 use native.Mathlib.Numerals.{add-one}
 use lib.ListN.{length, set}
 use Rattle.arithmetic.specs.Word.{wrapAdd}
-use Rattle.rows_planes.specs.Inner.{setAll, betweenValue, PartAsks, BetweenAsks}
-use Rattle.rows_planes.proofs.Storing.{setAll-none, setAll-more, setAll-length}
+use Rattle.rows_widening.specs.Inner.{setAll, betweenValue, PartAsks, BetweenAsks}
+use Rattle.rows_widening.proofs.Storing.{setAll-none, setAll-more, setAll-length}
 use borrow.Author.Needs.{needs}
-use Rattle.rows_planes.proofs.put_between.Statement.{statement}
-use Rattle.rows_planes.proofs.put_between.Tie as tie
+use Rattle.rows_widening.proofs.put_between.Statement.{statement}
+use Rattle.rows_widening.proofs.put_between.Tie as tie
 
 reads : {s half : List ℕ} {lanes left right acc rest at : ℕ} (k : ℕ) → BetweenAsks s lanes left right acc rest half at → k < lanes
     → PartAsks s lanes k left acc × PartAsks s lanes k right rest

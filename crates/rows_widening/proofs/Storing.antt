@@ -5,7 +5,7 @@ use mathlib.Core.List.{List}
 use native.Mathlib.Omega.{arith}
 use lib.ListN.{length, set, length-set}
 use Rattle.arithmetic.proofs.Stores.{Stored, store, place}
-use Rattle.rows_planes.specs.Inner.{setAll}
+use Rattle.rows_widening.specs.Inner.{setAll}
 
 pub setAll-none : (half : List ℕ) (at : ℕ) (f : ℕ → ℕ) → half ≡ setAll half at f 0
 unfolding setAll

@@ -1,8 +1,8 @@
 -- `grow`: one lane, or several. Assumes nothing.
 use mathlib.Core.Path.{_≡_, sym}
 use borrow.Author.Needs.{needs}
-use Rattle.rows_planes.proofs.grow.Statement.{statement}
-use Rattle.rows_planes.proofs.grow.Tie as tie
+use Rattle.rows_widening.proofs.grow.Statement.{statement}
+use Rattle.rows_widening.proofs.grow.Tie as tie
 
 grow-lane-requires : tie.Need-grow-lane-requires
 grow-lane-requires c κs = let e = c .before .if1 .taken in (rw e at (c .before .before .before .before .pre .0), c .before .before .before .before .pre .1)

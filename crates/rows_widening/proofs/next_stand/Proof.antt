@@ -2,8 +2,8 @@
 use mathlib.Core.Path.{refl}
 use native.Mathlib.Omega.{arith}
 use borrow.Author.Needs.{needs}
-use Rattle.rows_planes.proofs.next_stand.Statement.{statement}
-use Rattle.rows_planes.proofs.next_stand.Tie as tie
+use Rattle.rows_widening.proofs.next_stand.Statement.{statement}
+use Rattle.rows_widening.proofs.next_stand.Tie as tie
 
 add-t5 : tie.Need-add-t5
 add-t5 c = search needs

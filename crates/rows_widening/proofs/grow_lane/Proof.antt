@@ -9,12 +9,12 @@ use lib.ListN.{length, getD, set}
 use Rattle.arithmetic.specs.Word.{wrapAdd, wrapMul}
 use Rattle.arithmetic.proofs.Orders.{le-or-lt}
 use Rattle.arithmetic.proofs.Stores.{same}
-use Rattle.rows_planes.specs.Inner.{byteOf, setAll, betweenValue, PairAsks, PairIs, RowAsks}
-use Rattle.rows_planes.proofs.LaneColumns.{one-byte}
-use Rattle.rows_planes.proofs.GrowingRows.{Growing, growing-first, growing-stands, growing-more, growing-right, growing-turn, growing-done}
+use Rattle.rows_widening.specs.Inner.{byteOf, setAll, betweenValue, PairAsks, PairIs, RowAsks}
+use Rattle.rows_widening.proofs.RowBytes.{one-byte}
+use Rattle.rows_widening.proofs.GrowingRows.{Growing, growing-first, growing-stands, growing-more, growing-right, growing-turn, growing-done}
 use borrow.Author.Needs.{needs}
-use Rattle.rows_planes.proofs.grow_lane.Statement.{statement}
-use Rattle.rows_planes.proofs.grow_lane.Tie as tie
+use Rattle.rows_widening.proofs.grow_lane.Statement.{statement}
+use Rattle.rows_widening.proofs.grow_lane.Tie as tie
 
 record Inv (s : List ℕ) (n m : ℕ) (half₀ half : List ℕ) (left right x acc j : ℕ) : Type 0 where
   grows : Growing s 1 n m half₀ half x acc j
