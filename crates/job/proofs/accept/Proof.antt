@@ -87,11 +87,12 @@ loop-less c = search needs
 loop-again : tie.Need-loop-again Inv-loop μ-loop
 loop-again c =
     let a = (c .before .before .before .before .before .before .before .before .before .before .before .before .before .before .before .before .before .before .args) in
+    let pre = c .before .before .before .before .before .before .before .before .before .before .before .before .before .before .before .before .before .before .pre in
     let l = (c .before .before .before .before .before .before .before .before .before .before .before .loop) in
     let most = c .before .before .before .before .before .before .before .before .before .before .before .before .before .most-rows .ensures in
     let put = rw (c .before .before .before .before .before .before .before .before .before .before .before .before .before .before .row-form .ensures) at (c .before .before .before .before .before .before .before .put-source-row .ensures .1) in
-    let fed = next-fed (a .j) (a .rows .now) (a .work .now) _ ((c .before .before .before .before .before .before .before .before .before .before .before .before .before .before .before .before .before .before .pre)) most (l .work) (l .i) (l .inv) _ (c .before .before .before .before .before .before .before .before .before .before .before .before .row-bytes .ensures) _ put in
-    accepting-more (a .j) (a .rows .now) (a .work .now) _ ((c .before .before .before .before .before .before .before .before .before .before .before .before .before .before .before .before .before .before .pre)) most (l .work) (l .i) (l .inv) _ fed (c .before .before .before .before .before .before .before .put-source-row .kept .1 .1 .1 .1 .1 .0) (c .before .before .before .before .if1 .left) (rw (c .before .before .rows-by .ensures) at (c .if2 .left))
+    let fed = next-fed (a .j) (a .rows .now) (a .work .now) _ pre most (l .work) (l .i) (l .inv) _ (c .before .before .before .before .before .before .before .before .before .before .before .before .row-bytes .ensures) _ put in
+    accepting-more (a .j) (a .rows .now) (a .work .now) _ pre most (l .work) (l .i) (l .inv) _ fed (c .before .before .before .before .before .before .before .put-source-row .kept .1 .1 .1 .1 .1 .0) (c .before .before .before .before .if1 .left) (rw (c .before .before .rows-by .ensures) at (c .if2 .left))
 
 same-length : tie.Need-same-length Inv-loop μ-loop
 same-length c = c .before .before .before .put-source-row .kept .1 .1 .1 .1 .1 .0 ∙ c .before .before .before .before .before .before .before .loop .inv .long

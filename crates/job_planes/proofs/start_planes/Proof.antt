@@ -65,11 +65,13 @@ returns-2 c =
     let z = sym (rw (c .before .before .before .before .before .before .before .before .before .before .before .before .before .before .before .before .before .enum-told .given .1) at (c .before .before .before .before .before .before .before .before .before .before .before .before .before .before .before .before .before .before .before .check-planes .ensures)) in
     let go = all-start (a .source) (a .target) (length (a .luma .now)) (length (a .cb .now)) (length (a .cr .now)) z in
     let luma = c .before .before .before .before .before .before .before .before .before .before .before .before .before .whole-plane .ensures in
-    let cb = rw (c .before .before .before .before .before .before .before .before .before .before .before .before .before .before .before .before .chroma-size .ensures, c .before .before .before .before .before .before .before .before .before .before .before .before .before .before .before .chroma-size2 .ensures) at (c .before .before .before .before .before .before .before .before .before .whole-plane2 .ensures) in
-    let cr = rw (c .before .before .before .before .before .before .before .before .before .before .before .before .before .before .before .before .chroma-size .ensures, c .before .before .before .before .before .before .before .before .before .before .before .before .before .before .before .chroma-size2 .ensures) at (c .before .before .before .before .before .whole-plane3 .ensures) in
+    let half-source = c .before .before .before .before .before .before .before .before .before .before .before .before .before .before .before .before .chroma-size .ensures in
+    let half-target = c .before .before .before .before .before .before .before .before .before .before .before .before .before .before .before .chroma-size2 .ensures in
+    let cb = rw (half-source, half-target) at (c .before .before .before .before .before .before .before .before .before .whole-plane2 .ensures) in
+    let cr = rw (half-source, half-target) at (c .before .before .before .before .before .whole-plane3 .ensures) in
     let luma-job = c .before .before .job-of .ensures ∙ luma .1 .0 in
-    let cb-job = rw (c .before .before .before .before .before .before .before .before .before .before .before .before .before .before .before .before .chroma-size .ensures, c .before .before .before .before .before .before .before .before .before .before .before .before .before .before .before .chroma-size2 .ensures) at (c .before .job-of2 .ensures) in
-    let cr-job = rw (c .before .before .before .before .before .before .before .before .before .before .before .before .before .before .before .before .chroma-size .ensures, c .before .before .before .before .before .before .before .before .before .before .before .before .before .before .before .chroma-size2 .ensures) at (c .job-of3 .ensures) in (
+    let cb-job = rw (half-source, half-target) at (c .before .job-of2 .ensures) in
+    let cr-job = rw (half-source, half-target) at (c .job-of3 .ensures) in (
       sym z,
       (
         (luma-job, cb-job ∙ cb .1 .0, cr-job ∙ cr .1 .0),

@@ -105,7 +105,9 @@ mul-half : tie.Need-mul-half Inv-loop μ-loop
 mul-half c = search needs
 
 slice-write-half : tie.Need-slice-write-half Inv-loop μ-loop
-slice-write-half c = omega (arith, same-half ((c .before .before .before .before .before .before .before .before .before .before .before .before .pre)) (c .before .before .before .before .before .before .before .before .before .loop .inv), c .before .before .before .before .before .before .before .before .before .before .before .before .pre .room, c .before .before .before .before .before .before .before .before .loop-test .taken)
+slice-write-half c =
+    let asks = c .before .before .before .before .before .before .before .before .before .before .before .before .pre in
+    omega (arith, same-half asks (c .before .before .before .before .before .before .before .before .before .loop .inv), asks .room, c .before .before .before .before .before .before .before .before .loop-test .taken)
 
 mul-carry : tie.Need-mul-carry Inv-loop μ-loop
 mul-carry c = search needs

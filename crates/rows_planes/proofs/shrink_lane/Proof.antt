@@ -154,7 +154,9 @@ add-x : tie.Need-add-x Inv-loop μ-loop
 add-x c = omega (arith, each-in (c .before .before .before .before .before .before .before .pre .0) (c .before .before .before .before .before .before .before .pre .1) (c .before .before .before .loop .inv) (c .before .before .loop-test .taken) _ _ refl refl, c .before .before .before .before .before .before .before .pre .0 .n-small)
 
 byte-requires : tie.Need-byte-requires Inv-loop μ-loop
-byte-requires c κs = omega (arith, longer-in (c .before .before .before .before .before .before .before .before .pre .0) (c .before .before .before .before .before .before .before .before .pre .1) (c .before .before .before .before .loop .inv) (c .before .before .before .loop-test .taken) _ _ refl refl (c .if1 .taken), c .before .before .before .before .before .before .before .before .pre .0 .whole)
+byte-requires c κs =
+    let asks = c .before .before .before .before .before .before .before .before .pre .0 in
+    omega (arith, longer-in asks (c .before .before .before .before .before .before .before .before .pre .1) (c .before .before .before .before .loop .inv) (c .before .before .before .loop-test .taken) _ _ refl refl (c .if1 .taken), asks .whole)
 
 wrapping-add-u32-requires-2 : tie.Need-wrapping-add-u32-requires-2 Inv-loop μ-loop
 wrapping-add-u32-requires-2 c κs = search needs

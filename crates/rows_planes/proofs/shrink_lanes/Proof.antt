@@ -141,7 +141,9 @@ next-column-requires : tie.Need-next-column-requires Inv-loop μ-loop
 next-column-requires c κs = next-asks (c .before .before .before .before .before .pre .0) (c .before .before .before .before .before .pre .1) (c .before .loop .inv) _ _ refl refl
 
 mul-put-column : tie.Need-mul-put-column Inv-loop μ-loop
-mul-put-column c = omega (arith, mul-le-mul {n₁ = c .before .before .before .before .before .before .before .before .args .lanes} {m₁ = c .before .before .before .before .loop .j} {n₂ = 4} {m₂ = 16384} (c .before .before .before .before .before .before .before .before .pre .0 .lane-count .most) (omega (arith, c .before .before .before .before .before .before .before .before .pre .0 .m-small, c .before .before .before .loop-test .taken)))
+mul-put-column c =
+    let asks = c .before .before .before .before .before .before .before .before .pre .0 in
+    omega (arith, mul-le-mul {n₁ = c .before .before .before .before .before .before .before .before .args .lanes} {m₁ = c .before .before .before .before .loop .j} {n₂ = 4} {m₂ = 16384} (asks .lane-count .most) (omega (arith, asks .m-small, c .before .before .before .loop-test .taken)))
 
 put-column-requires : tie.Need-put-column-requires Inv-loop μ-loop
 put-column-requires c κs = put-asks (c .before .before .before .before .before .before .before .before .pre .0) (c .before .before .before .before .before .before .before .before .pre .1) (c .before .before .before .before .loop .inv) (c .before .before .next-column .ensures) (c .before .before .before .loop-test .taken)

@@ -38,7 +38,9 @@ sub-put-between : tie.Need-sub-put-between Inv-loop μ-loop
 sub-put-between c = c .before .before .next-stand .ensures .small
 
 mul-put-between : tie.Need-mul-put-between Inv-loop μ-loop
-mul-put-between c = omega (arith, mul-le-mul {n₁ = c .before .before .before .before .before .before .before .before .args .lanes} {m₁ = c .before .before .before .before .before .loop .j} {n₂ = 4} {m₂ = 16384} (c .before .before .before .before .before .before .before .before .pre .0 .lane-count .most) (omega (arith, c .before .before .before .before .before .before .before .before .pre .0 .m-small, c .before .before .before .before .loop-test .taken)))
+mul-put-between c =
+    let asks = c .before .before .before .before .before .before .before .before .pre .0 in
+    omega (arith, mul-le-mul {n₁ = c .before .before .before .before .before .before .before .before .args .lanes} {m₁ = c .before .before .before .before .before .loop .j} {n₂ = 4} {m₂ = 16384} (asks .lane-count .most) (omega (arith, asks .m-small, c .before .before .before .before .loop-test .taken)))
 
 put-between-requires : tie.Need-put-between-requires Inv-loop μ-loop
 put-between-requires c κs = growing-between (c .before .before .before .before .before .before .before .before .pre .0) (c .before .before .before .before .before .before .before .before .pre .1) (c .before .before .before .before .before .loop .inv) (c .before .before .before .before .loop-test .taken) (c .before .before .before .next-stand .ensures)
