@@ -1,4 +1,4 @@
-// The tests of sizes and lengths that calls share (SCOPE, numbers 1 to 4 of "Why a call is turned away").
+// The tests of sizes and lengths that calls share (SCOPE, numbers 1 to 4 and 10 of "Why a call is turned away").
 use pixels::Checked;
 use pixels::Dimensions;
 use pixels::MAX_LANES;
