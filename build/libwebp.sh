@@ -14,3 +14,24 @@ want_libwebp() { # C-COMPILER
     fi
 }
 install_libwebp() { timeout 120 apt-get install -y -qq libwebp-dev; }
+
+# Whether a program over libwebp's public headers links with these words.
+libwebp_links() { # C-COMPILER ROOM WORD..
+    local cc=$1 room=$2
+    shift 2
+    printf '#include <webp/encode.h>\nint main(void) { WebPPicture p; return !WebPPictureInit(&p) || !WebPPictureRescale(&p, 1, 1); }\n' |
+        "$cc" -x c - -x none "$@" -o "$room/links" 2>/dev/null
+}
+
+# Prints the words that link libwebp's archive, one to a line; nothing where none links. Only the archive is sure to have what the public headers lack.
+libwebp_archive() { # C-COMPILER ROOM
+    local names
+    local -a words
+    for names in "-lwebp" "-lwebp -lsharpyuv"; do
+        read -ra words <<<"-Wl,-Bstatic $names -Wl,-Bdynamic"
+        if libwebp_links "$1" "$2" "${words[@]}" -lm -lpthread; then
+            printf '%s\n' "${words[@]}"
+            return
+        fi
+    done
+}

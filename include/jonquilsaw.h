@@ -1,15 +1,17 @@
-/* Jonquilsaw: a picture scaler that takes source rows as they arrive and hands out preview rows as
- * they become ready. It allocates nothing: every buffer is lent by the caller. The bytes are those
- * of webpkit's rescaler; docs/DIFFERENCES.md says where libwebp's are others.
+/* Jonquilsaw: a scaler of pictures and planes that takes source rows as they arrive and hands out
+ * preview rows as they become ready. It allocates nothing: every buffer is lent by the caller. The
+ * bytes are those of webpkit's rescaler; docs/DIFFERENCES.md says where libwebp's are others.
  *
  * Every function returns 0 where the call was accepted and else a number that says why not: see
  * jonquilsaw_number. A refused call leaves every buffer as it was.
  *
  * A slice is a pointer and a count of its elements. The pointer must be that of live memory for so
  * many elements, aligned for their type; with a count of 0 it may be null. Two slices of one call
- * must not overlap unless both are const. Pixels are 4 bytes each, rows stand one after another
- * without gaps, and colours are not premultiplied by alpha. Nothing is kept between calls but what
- * stands in the record and the work values, so calls with other memory may run at the same time.
+ * must not overlap unless both are const. Rows stand one after another without gaps. A picture's
+ * pixels are 4 bytes each, and their colours are not premultiplied by alpha. A plane's pixels are 1
+ * to 4 lanes, a byte each, side by side, which are scaled as they are. Nothing is kept between calls
+ * but what stands in the record and the work values, so calls with other memory may run at the same
+ * time.
  *
  * First come the proved functions, which libjonquilsaw.a has; then functions of the header's own
  * over them, in which a size, a crop and a job have types. */
@@ -24,46 +26,63 @@ extern "C" {
 #endif
 
 #define JONQUILSAW_VERSION_MAJOR 0
-#define JONQUILSAW_VERSION_MINOR 2
+#define JONQUILSAW_VERSION_MINOR 3
 #define JONQUILSAW_VERSION_PATCH 0
-#define JONQUILSAW_VERSION "0.2.0"
+#define JONQUILSAW_VERSION "0.3.0"
 
-/* The largest side of a picture. */
+/* The largest side of a picture or a plane. */
 #define JONQUILSAW_MAX_SIDE 16384u
+
+/* The lanes of a picture's pixel, and the most that a plane has. */
+#define JONQUILSAW_PIXEL_LANES 4u
+#define JONQUILSAW_MAX_LANES 4u
 
 /* How many words a record takes. Words after them are never read or written. In their order:
  * source width and height; layout; crop x, y, width and height; target width and height; source
- * rows accepted; preview rows taken; 1 if a row taken had an alpha byte other than 255, else 0.
- * The caller may read them, copy them and fill them: a record that keeps the rules counts,
- * whoever filled it. */
-#define JONQUILSAW_RECORD_WORDS 12u
+ * rows accepted; preview rows taken; 1 if a row taken had an alpha byte other than 255, else 0;
+ * the kind, 0 for a picture and 1 for a plane; the lanes, 4 for a picture. A plane's layout is
+ * JONQUILSAW_RGBA8 and its flag 0. The caller may read them, copy them and fill them: a record
+ * that keeps the rules counts, whoever filled it. */
+#define JONQUILSAW_RECORD_WORDS 14u
 
-/* How many work values a job to a target of this width takes: two halves of a row. */
-#define JONQUILSAW_WORK_WORDS(target_width) ((size_t)8 * (target_width))
+/* How many work values a job to a target of this width takes: two rows of so many lanes. The
+ * second form is for a picture. */
+#define JONQUILSAW_WORK_WORDS_OF(lanes, target_width) ((size_t)2 * (lanes) * (target_width))
+#define JONQUILSAW_WORK_WORDS(target_width)                                                        \
+    JONQUILSAW_WORK_WORDS_OF(JONQUILSAW_PIXEL_LANES, target_width)
 
-/* The order of a pixel's bytes. */
+/* The order of the bytes of a picture's pixel. */
 typedef enum jonquilsaw_layout {
     JONQUILSAW_RGBA8 = 0,
     JONQUILSAW_ARGB8 = 1,
     JONQUILSAW_BGRA8 = 2
 } jonquilsaw_layout;
 
+/* What a job scales. */
+typedef enum jonquilsaw_kind {
+    /* pixels, matted by their alpha as they come in and restored as they go out */
+    JONQUILSAW_PICTURE = 0,
+    /* lanes, scaled as they are */
+    JONQUILSAW_PLANE = 1
+} jonquilsaw_kind;
+
 /* The numbers returned. */
 typedef enum jonquilsaw_number {
     JONQUILSAW_OK = 0,
     /* a source or target side is 0 or above 16,384, or the crop is empty */
     JONQUILSAW_INVALID_DIMENSIONS = 1,
-    /* the crop's right or bottom edge lies beyond the picture */
+    /* the crop's right or bottom edge lies beyond the source */
     JONQUILSAW_CROP_OUT_OF_BOUNDS = 2,
     /* pixels not 4 x width x height bytes; an alpha plane not width x height; offered bytes empty or
      * no whole number of source rows */
     JONQUILSAW_PIXEL_BUFFER_MISMATCH = 3,
     /* an output buffer not of the exact length */
     JONQUILSAW_OUTPUT_LENGTH = 4,
-    /* fewer than 8 x target width work values */
+    /* fewer than 2 x lanes x target width work values */
     JONQUILSAW_WORK_LENGTH = 5,
-    /* a record that is none: too few words, a layout or flag word that is none, sizes or counts that
-     * no job can have */
+    /* a record that is none: too few words; a layout, flag or kind word that is none; sizes or counts
+     * that no job can have; a picture of other than 4 lanes; a plane of other than 1 to 4 lanes, with
+     * the flag set or with another layout than JONQUILSAW_RGBA8 */
     JONQUILSAW_INVALID_RECORD = 6,
     /* an offer while an output row is ready: take it first */
     JONQUILSAW_ROW_READY = 7,
@@ -71,30 +90,55 @@ typedef enum jonquilsaw_number {
     JONQUILSAW_ALL_ACCEPTED = 8,
     /* a take with no row ready */
     JONQUILSAW_NONE_READY = 9,
+    /* a plane of no lanes, or of more than 4; tested straight after 1 */
+    JONQUILSAW_INVALID_LANES = 10,
     /* a layout argument that is none, or a slice for the answer that is too short; tested before all
      * others */
     JONQUILSAW_BOUNDARY = 100
 } jonquilsaw_number;
 
-/* Starts a job: the crop of a source, scaled to a target. Writes the fresh record to the first 12
- * of the record's words and clears the first 8 x target width of the work values. Refuses with
- * 100 (fewer than 12 words of record, or a layout that is none), 1, 2, 5, in this order. */
+/* Starts a picture's job: the crop of a source, scaled to a target. Writes the fresh record to the
+ * first 14 of the record's words and clears the first 8 x target width of the work values. Refuses
+ * with 100 (fewer than 14 words of record, or a layout that is none), 1, 2, 5, in this order. */
 uint32_t jonquilsaw_start(uint32_t source_width, uint32_t source_height, uint32_t layout,
                           uint32_t crop_x, uint32_t crop_y, uint32_t crop_width, uint32_t crop_height,
                           uint32_t target_width, uint32_t target_height, uint32_t *work,
                           size_t work_count, uint32_t *record, size_t record_count);
 
-/* Offers one or more whole source rows, from the first that was not accepted yet. It stops at the
- * first row that makes a preview row ready, at the last row offered or at the source's last.
- * Writes how many rows were accepted, at least one, to the first word of count; offer the rest
- * again after taking what is ready. Moves the record and the work values on. Refuses with 100
- * (no word of count), 6, 3, 5, 7, 8, in this order. */
+/* Starts a plane's job: the same for 1 to 4 lanes that are scaled as they are. A row has lanes x
+ * width bytes, in the source and in the preview; the first 2 x lanes x target width of the work
+ * values are cleared. Refuses with 100 (fewer than 14 words of record), 1, 10, 2, 5, in this
+ * order. */
+uint32_t jonquilsaw_start_plane(uint32_t source_width, uint32_t source_height, uint32_t lanes,
+                                uint32_t crop_x, uint32_t crop_y, uint32_t crop_width,
+                                uint32_t crop_height, uint32_t target_width, uint32_t target_height,
+                                uint32_t *work, size_t work_count, uint32_t *record,
+                                size_t record_count);
+
+/* Starts three jobs for a picture of three planes of one lane each, uncropped: luma in the sizes
+ * given, both chroma planes in half of them, rounded up, source and target alike. Writes three
+ * records and clears the beginning of three work slices, 2 x the plane's target width of each; or
+ * does nothing, where a number applies to any of the three. Refuses with 100 (fewer than 14 words
+ * of a record), 1, 5, in this order, each of them looked for over all three before the next. */
+uint32_t jonquilsaw_start_planes(uint32_t source_width, uint32_t source_height,
+                                 uint32_t target_width, uint32_t target_height, uint32_t *luma_work,
+                                 size_t luma_work_count, uint32_t *cb_work, size_t cb_work_count,
+                                 uint32_t *cr_work, size_t cr_work_count, uint32_t *luma,
+                                 size_t luma_count, uint32_t *cb, size_t cb_count, uint32_t *cr,
+                                 size_t cr_count);
+
+/* Offers one or more whole source rows to a job of either kind, from the first that was not accepted
+ * yet; a row is lanes x source width bytes, 4 x for a picture. It stops at the first row that makes
+ * a preview row ready, at the last row offered or at the source's last. Writes how many rows were
+ * accepted, at least one, to the first word of count; offer the rest again after taking what is
+ * ready. Moves the record and the work values on. Refuses with 100 (no word of count), 6, 3, 5, 7,
+ * 8, in this order. */
 uint32_t jonquilsaw_offer(uint32_t *record, size_t record_count, const uint8_t *rows,
                           size_t rows_count, uint32_t *work, size_t work_count, uint32_t *count,
                           size_t count_count);
 
-/* Takes the next preview row: exactly 4 x target width bytes. Moves the record and the work values
- * on. Refuses with 6, 4, 5, 9, in this order. */
+/* Takes the next preview row of a job of either kind: exactly lanes x target width bytes, 4 x for a
+ * picture. Moves the record and the work values on. Refuses with 6, 4, 5, 9, in this order. */
 uint32_t jonquilsaw_take(uint32_t *record, size_t record_count, uint8_t *out, size_t out_count,
                          uint32_t *work, size_t work_count);
 
@@ -107,8 +151,8 @@ uint32_t jonquilsaw_crop(uint32_t source_width, uint32_t source_height, uint32_t
                          uint32_t *flag, size_t flag_count);
 
 /* Scales a whole picture to out, exactly 4 x target width x target height bytes, and writes its
- * alpha flag to the first word of flag: the same bytes as a job with the full crop. The work
- * values end as that job's last take leaves them. Refuses with 100 (no word of flag, or a layout
+ * alpha flag to the first word of flag: the same bytes as a picture's job with the full crop. The
+ * work values end as that job's last take leaves them. Refuses with 100 (no word of flag, or a layout
  * that is none), 1, 3, 4, 5, in this order. */
 uint32_t jonquilsaw_resize(uint32_t source_width, uint32_t source_height, uint32_t layout,
                            uint32_t target_width, uint32_t target_height, const uint8_t *pixels,
@@ -156,14 +200,15 @@ static inline const char *jonquilsaw_meaning(uint32_t number) {
     switch (number) {
     case JONQUILSAW_OK: return "accepted";
     case JONQUILSAW_INVALID_DIMENSIONS: return "a side is 0 or above 16384, or the crop is empty";
-    case JONQUILSAW_CROP_OUT_OF_BOUNDS: return "the crop reaches beyond the picture";
-    case JONQUILSAW_PIXEL_BUFFER_MISMATCH: return "the bytes do not fit the picture's size";
+    case JONQUILSAW_CROP_OUT_OF_BOUNDS: return "the crop reaches beyond the source";
+    case JONQUILSAW_PIXEL_BUFFER_MISMATCH: return "the bytes do not fit the size";
     case JONQUILSAW_OUTPUT_LENGTH: return "the output buffer is not of the exact length";
     case JONQUILSAW_WORK_LENGTH: return "there are too few work values";
     case JONQUILSAW_INVALID_RECORD: return "no job can have this record";
     case JONQUILSAW_ROW_READY: return "a preview row is ready and has to be taken first";
     case JONQUILSAW_ALL_ACCEPTED: return "all source rows were accepted before";
     case JONQUILSAW_NONE_READY: return "no preview row is ready";
+    case JONQUILSAW_INVALID_LANES: return "a plane has 1 to 4 lanes";
     case JONQUILSAW_BOUNDARY: return "the layout is none, or the answer has too little room";
     default: return "no number of this library";
     }
@@ -179,7 +224,7 @@ typedef struct jonquilsaw_rect {
     uint32_t x, y, width, height;
 } jonquilsaw_rect;
 
-/* What a job scales to what. */
+/* What a picture's job scales to what. */
 typedef struct jonquilsaw_plan {
     jonquilsaw_size source;
     jonquilsaw_layout layout;
@@ -187,15 +232,35 @@ typedef struct jonquilsaw_plan {
     jonquilsaw_size target;
 } jonquilsaw_plan;
 
+/* What a plane's job scales to what. */
+typedef struct jonquilsaw_plane_plan {
+    jonquilsaw_size source;
+    uint32_t lanes;
+    jonquilsaw_rect crop;
+    jonquilsaw_size target;
+} jonquilsaw_plane_plan;
+
 /* A job's record: the words of JONQUILSAW_RECORD_WORDS. */
 typedef struct jonquilsaw_job {
     uint32_t words[JONQUILSAW_RECORD_WORDS];
 } jonquilsaw_job;
 
-/* The crop that is all of a picture. */
+/* The jobs of a picture of three planes, each offered and taken by itself. */
+typedef struct jonquilsaw_planes {
+    jonquilsaw_job luma, cb, cr;
+} jonquilsaw_planes;
+
+/* The crop that is all of a picture or a plane. */
 static inline jonquilsaw_rect jonquilsaw_whole(jonquilsaw_size size) {
     jonquilsaw_rect rect = {0, 0, size.width, size.height};
     return rect;
+}
+
+/* The size of the chroma planes beside a luma plane of this size: half of each side, rounded up. */
+static inline jonquilsaw_size jonquilsaw_size_chroma(jonquilsaw_size size) {
+    /* side + 1 would wrap at the largest */
+    jonquilsaw_size half = {size.width / 2 + size.width % 2, size.height / 2 + size.height % 2};
+    return half;
 }
 
 /* jonquilsaw_scaled. */
@@ -220,6 +285,29 @@ static inline uint32_t jonquilsaw_job_start(jonquilsaw_job *job, const jonquilsa
                             JONQUILSAW_RECORD_WORDS);
 }
 
+/* jonquilsaw_start_plane. */
+static inline uint32_t jonquilsaw_job_start_plane(jonquilsaw_job *job,
+                                                  const jonquilsaw_plane_plan *plan, uint32_t *work,
+                                                  size_t work_count) {
+    return jonquilsaw_start_plane(plan->source.width, plan->source.height, plan->lanes, plan->crop.x,
+                                  plan->crop.y, plan->crop.width, plan->crop.height,
+                                  plan->target.width, plan->target.height, work, work_count,
+                                  job->words, JONQUILSAW_RECORD_WORDS);
+}
+
+/* jonquilsaw_start_planes. The sizes are luma's; jonquilsaw_size_chroma has those of cb and cr. */
+static inline uint32_t jonquilsaw_planes_start(jonquilsaw_planes *planes, jonquilsaw_size source,
+                                               jonquilsaw_size target, uint32_t *luma_work,
+                                               size_t luma_work_count, uint32_t *cb_work,
+                                               size_t cb_work_count, uint32_t *cr_work,
+                                               size_t cr_work_count) {
+    return jonquilsaw_start_planes(source.width, source.height, target.width, target.height,
+                                   luma_work, luma_work_count, cb_work, cb_work_count, cr_work,
+                                   cr_work_count, planes->luma.words, JONQUILSAW_RECORD_WORDS,
+                                   planes->cb.words, JONQUILSAW_RECORD_WORDS, planes->cr.words,
+                                   JONQUILSAW_RECORD_WORDS);
+}
+
 /* jonquilsaw_offer; accepted becomes the number of rows accepted. */
 static inline uint32_t jonquilsaw_job_offer(jonquilsaw_job *job, const uint8_t *rows,
                                             size_t rows_count, uint32_t *work, size_t work_count,
@@ -234,10 +322,23 @@ static inline uint32_t jonquilsaw_job_take(jonquilsaw_job *job, uint8_t *out, si
     return jonquilsaw_take(job->words, JONQUILSAW_RECORD_WORDS, out, out_count, work, work_count);
 }
 
-/* Source rows accepted, preview rows taken, and 1 if one of them had an alpha byte other than 255. */
+/* Source rows accepted, preview rows taken, and 1 if a row that a picture's job handed out had an
+ * alpha byte other than 255. */
 static inline uint32_t jonquilsaw_job_accepted(const jonquilsaw_job *job) { return job->words[9]; }
 static inline uint32_t jonquilsaw_job_taken(const jonquilsaw_job *job) { return job->words[10]; }
 static inline uint32_t jonquilsaw_job_has_alpha(const jonquilsaw_job *job) { return job->words[11]; }
+
+/* The kind and the lanes; the bytes of a source row and of a preview row. */
+static inline jonquilsaw_kind jonquilsaw_job_kind(const jonquilsaw_job *job) {
+    return job->words[12] == JONQUILSAW_PLANE ? JONQUILSAW_PLANE : JONQUILSAW_PICTURE;
+}
+static inline uint32_t jonquilsaw_job_lanes(const jonquilsaw_job *job) { return job->words[13]; }
+static inline size_t jonquilsaw_job_row_bytes(const jonquilsaw_job *job) {
+    return (size_t)job->words[13] * job->words[0];
+}
+static inline size_t jonquilsaw_job_out_bytes(const jonquilsaw_job *job) {
+    return (size_t)job->words[13] * job->words[7];
+}
 
 /* jonquilsaw_crop. */
 static inline uint32_t jonquilsaw_picture_crop(jonquilsaw_size source, jonquilsaw_layout layout,

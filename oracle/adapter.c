@@ -6,17 +6,42 @@
 
 _Static_assert(OURS_RECORD == JONQUILSAW_RECORD_WORDS, "a record's words");
 
-/* The record that start writes lies apart from its arguments; what it writes beside a success is seen as a difference. */
-uint32_t ours_start(uint32_t record[OURS_RECORD], uint32_t* work, size_t work_len) {
-  uint32_t fresh[OURS_RECORD];
-  for (int i = 0; i < OURS_RECORD; ++i) fresh[i] = 0x5c5c5c5cu + (uint32_t)i;
-  const uint32_t n = jonquilsaw_start(record[0], record[1], record[2], record[3], record[4], record[5], record[6], record[7], record[8], work, work_len,
-                                      fresh, OURS_RECORD);
-  for (int i = 0; i < OURS_RECORD; ++i) {
+/* The record that a start writes lies apart from its arguments; what it writes beside a success is seen as a difference. */
+static void blank(uint32_t fresh[OURS_RECORD]) {
+  for (uint32_t i = 0; i < OURS_RECORD; ++i) fresh[i] = 0x5c5c5c5cu + i;
+}
+
+static uint32_t started(uint32_t n, const uint32_t fresh[OURS_RECORD], uint32_t record[OURS_RECORD]) {
+  for (uint32_t i = 0; i < OURS_RECORD; ++i) {
     if (n == 0) record[i] = fresh[i];
-    else if (fresh[i] != 0x5c5c5c5cu + (uint32_t)i) return 1000;
+    else if (fresh[i] != 0x5c5c5c5cu + i) return 1000;
   }
   return n;
+}
+
+uint32_t ours_start(uint32_t r[OURS_RECORD], uint32_t* work, size_t work_len) {
+  uint32_t fresh[OURS_RECORD];
+  blank(fresh);
+  return started(jonquilsaw_start(r[0], r[1], r[2], r[3], r[4], r[5], r[6], r[7], r[8], work, work_len, fresh, OURS_RECORD), fresh, r);
+}
+
+uint32_t ours_start_plane(uint32_t r[OURS_RECORD], uint32_t* work, size_t work_len) {
+  uint32_t fresh[OURS_RECORD];
+  blank(fresh);
+  return started(jonquilsaw_start_plane(r[0], r[1], r[2], r[3], r[4], r[5], r[6], r[7], r[8], work, work_len, fresh, OURS_RECORD), fresh, r);
+}
+
+uint32_t ours_start_planes(uint32_t w, uint32_t h, uint32_t tw, uint32_t th, uint32_t* const work[3], const size_t work_len[3],
+                           uint32_t records[3][OURS_RECORD]) {
+  uint32_t fresh[3][OURS_RECORD];
+  for (int i = 0; i < 3; ++i) blank(fresh[i]);
+  const uint32_t n = jonquilsaw_start_planes(w, h, tw, th, work[0], work_len[0], work[1], work_len[1], work[2], work_len[2], fresh[0], OURS_RECORD, fresh[1],
+                                             OURS_RECORD, fresh[2], OURS_RECORD);
+  uint32_t told = n;
+  for (int i = 0; i < 3; ++i) {
+    if (started(n, fresh[i], records[i]) != n) told = 1000;
+  }
+  return told;
 }
 
 uint32_t ours_offer(uint32_t record[OURS_RECORD], const uint8_t* bytes, size_t len, uint32_t* work, size_t work_len, uint32_t* rows) {

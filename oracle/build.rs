@@ -15,12 +15,15 @@ pub mod open {
     pub fn alpha_scale(a: u32, inverse: bool) -> u32 {
         super::alpha_scale(a, inverse)
     }
-    /// A rescaler of four lanes whose state can be set.
+    pub fn rescale_plane(src: &[u8], n: u32, h: u32, m: u32, g: u32, lanes: u32) -> Vec<u8> {
+        super::rescale_plane(src, n as i32, h as i32, lanes as usize, m as i32, g as i32)
+    }
+    /// A rescaler whose state can be set.
     pub struct Scaler(Rescaler);
     impl Scaler {
-        /// Crop n by h to m by g, with room for `rows` output rows.
-        pub fn new(n: u32, h: u32, m: u32, g: u32, rows: u32) -> Self {
-            let whole = Rescaler::new(n as i32, h as i32, m as i32, g as i32, 4);
+        /// Crop n by h to m by g, of so many lanes, with room for `rows` output rows.
+        pub fn new(n: u32, h: u32, m: u32, g: u32, lanes: u32, rows: u32) -> Self {
+            let whole = Rescaler::new(n as i32, h as i32, m as i32, g as i32, lanes as usize);
             let dst = vec![0; whole.dst_stride * rows as usize];
             Scaler(Rescaler { dst, ..whole })
         }

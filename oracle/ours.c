@@ -137,54 +137,102 @@ static void scaled(const uint64_t* v) {
   printf("%u %u %u\n", n, n == 0 ? w : 0, n == 0 ? h : 0);
 }
 
-static void put_record(const uint32_t* r, const Buffer* work) {
+static void put_record(const uint32_t r[OURS_RECORD]) {
   for (int i = 0; i < OURS_RECORD; ++i) printf("%c%u", i ? ',' : ' ', r[i]);
-  printf(" %016llx", (unsigned long long)fnv_words(work));
 }
+
+static void put_work(const Buffer* work) { printf(" %016llx", (unsigned long long)fnv_words(work)); }
 
 /* Work values beyond the part that a call was lent are an input too. */
 static int beyond_kept(const Buffer* work, const uint32_t* before, size_t lent) {
   return !memcmp(work->at + 4 * lent, before + lent, work->n - 4 * lent);
 }
 
-static void job(const uint64_t* v, char* at) {
-  uint32_t r[OURS_RECORD] = {v[1], v[2], v[0], v[3], v[4], v[5], v[6], v[7], v[8], 7, 7, 7};
-  const size_t work_len = v[9];
-  Buffer work = lend_words(work_len);
-  const uint32_t started = ours_start(r, (uint32_t*)work.at, work_len);
-  printf("%u %016llx", started, (unsigned long long)fnv_words(&work));
-  if (started != 0) {
-    printf(" %d\n", give_back(work));
-    return;
+/* A job by rows: its record, its work values, and a source with two rows and some bytes more than it has. */
+typedef struct {
+  uint32_t record[OURS_RECORD];
+  Buffer work, px;
+} Rows;
+
+/* One call: what it answers. Returns whether what was not lent is as it was. */
+static int call(Rows* rows, char kind, char** at) {
+  uint64_t a[3];
+  numbers(at, a, kind == 'o' ? 3 : 2);
+  if (kind == 's') {
+    rows->record[a[0]] = (uint32_t)a[1];
+    return 1;
   }
-  Buffer px = lend_pixels((uint32_t)v[0], v[10], v[11], 4 * v[1] * v[2] + 8 * v[1] + 8);
-  uint32_t* const before = malloc(4 * work_len + 4);
+  uint32_t* const work = (uint32_t*)rows->work.at;
+  uint32_t* const before = malloc(rows->work.n + 4);
   int kept = 1;
-  keep(&px);
-  for (const char* kind = word(&at); *kind; kind = word(&at)) {
-    uint64_t a[3];
-    memcpy(before, work.at, work.n);
-    if (*kind == 'o') {
-      uint32_t rows = 0;
-      numbers(&at, a, 3);
-      const uint32_t n = ours_offer(r, px.at + a[0], a[1], (uint32_t*)work.at, a[2], &rows);
-      printf(" %u %u", n, n == 0 ? rows : 0);
-      kept &= beyond_kept(&work, before, a[2]);
-    } else if (*kind == 't') {
-      numbers(&at, a, 2);
-      Buffer out = lend_out(a[0]);
-      printf(" %u ", ours_take(r, out.at, out.n, (uint32_t*)work.at, a[1]));
-      put_hex(out.at, out.n);
-      kept &= give_back(out) & beyond_kept(&work, before, a[1]);
-    } else {
-      numbers(&at, a, 2);
-      r[a[0]] = (uint32_t)a[1];
-      continue;
-    }
-    put_record(r, &work);
+  memcpy(before, rows->work.at, rows->work.n);
+  if (kind == 'o') {
+    uint32_t count = 0;
+    const uint32_t n = ours_offer(rows->record, rows->px.at + a[0], a[1], work, a[2], &count);
+    printf(" %u %u", n, n == 0 ? count : 0);
+    kept = beyond_kept(&rows->work, before, a[2]);
+  } else {
+    Buffer out = lend_out(a[0]);
+    printf(" %u ", ours_take(rows->record, out.at, out.n, work, a[1]));
+    put_hex(out.at, out.n);
+    kept = give_back(out) & beyond_kept(&rows->work, before, a[1]);
   }
-  printf(" %d\n", kept & give_back(px) & give_back(work));
+  put_record(rows->record);
+  put_work(&rows->work);
   free(before);
+  return kept;
+}
+
+/* The source of a job that was started. */
+static void lend_source(Rows* rows, uint32_t layout, uint64_t lanes, uint64_t pattern, uint64_t seed) {
+  const uint64_t row = lanes * rows->record[0];
+  rows->px = lend_pixels(layout, pattern, seed, row * (rows->record[1] + 2) + 8);
+  keep(&rows->px);
+}
+
+/* Of a picture, v[0] its layout, or of a plane, v[0] its lanes. */
+static void job(const uint64_t* v, char* at, int plane) {
+  Rows rows = {{v[1], v[2], v[0], v[3], v[4], v[5], v[6], v[7], v[8], 7, 7, 7, 7, 7}, lend_words(v[9]), {0}};
+  const uint32_t n = (plane ? ours_start_plane : ours_start)(rows.record, (uint32_t*)rows.work.at, v[9]);
+  int kept = 1;
+  printf("%u", n);
+  put_work(&rows.work);
+  if (n == 0) {
+    lend_source(&rows, plane ? 0 : v[0], plane ? v[0] : 4, v[10], v[11]);
+    for (const char* kind = word(&at); *kind; kind = word(&at)) kept &= call(&rows, *kind, &at);
+    kept &= give_back(rows.px);
+  }
+  kept &= give_back(rows.work);
+  printf(" %d\n", kept);
+}
+
+/* Three planes started together; each has bytes of its own. */
+static void three(const uint64_t* v, char* at) {
+  Rows rows[3];
+  uint32_t records[3][OURS_RECORD] = {{0}};
+  uint32_t* work[3];
+  int kept = 1, which = 0;
+  for (int i = 0; i < 3; ++i) {
+    rows[i].work = lend_words(v[4 + i]);
+    work[i] = (uint32_t*)rows[i].work.at;
+  }
+  const uint32_t n = ours_start_planes(v[0], v[1], v[2], v[3], work, (const size_t[3]){v[4], v[5], v[6]}, records);
+  printf("%u", n);
+  for (int i = 0; i < 3; ++i) put_work(&rows[i].work);
+  if (n == 0) {
+    for (int i = 0; i < 3; ++i) {
+      memcpy(rows[i].record, records[i], sizeof records[i]);
+      put_record(records[i]);
+      lend_source(&rows[i], 0, 1, v[7], v[8] + i);
+    }
+    for (const char* kind = word(&at); *kind; kind = word(&at)) {
+      if (*kind == 'p') which = (int)number(&at);
+      else kept &= call(&rows[which], *kind, &at);
+    }
+    for (int i = 0; i < 3; ++i) kept &= give_back(rows[i].px);
+  }
+  for (int i = 0; i < 3; ++i) kept &= give_back(rows[i].work);
+  printf(" %d\n", kept);
 }
 
 int main(void) {
@@ -202,7 +250,9 @@ int main(void) {
     else if (!strcmp(kind, "unpack")) numbers(&at, v, 5), unpack_all(v);
     else if (!strcmp(kind, "pack")) numbers(&at, v, 5), pack_all(v);
     else if (!strcmp(kind, "scaled")) numbers(&at, v, 4), scaled(v);
-    else if (!strcmp(kind, "job")) numbers(&at, v, 12), job(v, at);
+    else if (!strcmp(kind, "job")) numbers(&at, v, 12), job(v, at, 0);
+    else if (!strcmp(kind, "lanes")) numbers(&at, v, 12), job(v, at, 1);
+    else if (!strcmp(kind, "three")) numbers(&at, v, 9), three(v, at);
     else puts("! no job");
   }
   return 0;

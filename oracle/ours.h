@@ -9,11 +9,17 @@
 #include <stddef.h>
 #include <stdint.h>
 
-/* Source width, source height, layout, crop x, y, width, height, target width, target height, rows accepted, rows taken, flag. */
-#define OURS_RECORD 12
+/* Source width, source height, layout, crop x, y, width, height, target width, target height, rows accepted, rows taken, flag, kind (0 a picture, 1 a
+ * plane), lanes. */
+#define OURS_RECORD 14
 
-/* The record's first nine numbers are the arguments, also where start refuses; on success the last three become 0. */
+/* The record's first nine numbers are the arguments, also where start refuses, of a plane the lanes in the layout's place; on success all its numbers
+ * become those of the fresh record. */
 uint32_t ours_start(uint32_t record[OURS_RECORD], uint32_t* work, size_t work_len);
+uint32_t ours_start_plane(uint32_t record[OURS_RECORD], uint32_t* work, size_t work_len);
+/* Luma and both chroma planes; the records are written on success only. */
+uint32_t ours_start_planes(uint32_t w, uint32_t h, uint32_t tw, uint32_t th, uint32_t* const work[3], const size_t work_len[3],
+                           uint32_t records[3][OURS_RECORD]);
 /* On success *rows is the count accepted. The record becomes the one handed back, on refusal too. */
 uint32_t ours_offer(uint32_t record[OURS_RECORD], const uint8_t* bytes, size_t len, uint32_t* work, size_t work_len, uint32_t* rows);
 uint32_t ours_take(uint32_t record[OURS_RECORD], uint8_t* out, size_t out_len, uint32_t* work, size_t work_len);

@@ -3,7 +3,7 @@
  *   drive [ROUNDS]             the tables
  *   drive memory SIDE JOB      one job in a process of its own: its peak memory in KiB (VmHWM)
  *
- * A round runs every side once, in turning order, and each round has another layout, so that no side knows it beforehand.
+ * A round runs every side once, in turning order, and of pictures each round has another layout, so that no side knows it beforehand.
  * Timed is processor time of the one thread, which other programs on the machine disturb least. A ratio is taken within a round:
  * its median over the rounds counts, and its range over them is told.
  * NO_ORIGINAL, NO_LIBWEBP and NO_PLAIN leave out what is not at hand. */
@@ -25,14 +25,14 @@
 #include <webp/encode.h>
 #endif
 #ifndef NO_PLAIN
-/* libwebp's choice of processor features; NULL leaves its plain C. It is no part of the public headers. */
-typedef int (*CpuInfo)(int feature);
-extern CpuInfo VP8GetCPUInfo;
+#include "../oracle/rescaler.h"
 #endif
 #ifndef NO_ORIGINAL
 void* original_new(uint32_t layout, uint32_t width, uint32_t height, const uint8_t* pixels);
 void* original_scale(const void* image, _Bool cut, uint32_t x, uint32_t y, uint32_t cw, uint32_t ch, uint32_t tw, uint32_t th);
 void original_free(void* image, uint8_t* out);
+void* original_plane(uint32_t lanes, uint32_t width, uint32_t height, const uint8_t* bytes, uint32_t tw, uint32_t th);
+void original_plane_free(void* plane, uint8_t* out);
 #endif
 
 typedef struct {
@@ -45,7 +45,14 @@ static const Job kJobs[] = {
     {"growing", 512, 512, 0, 0, 512, 512, 1024, 1024},     {"crop", 3000, 4000, 500, 1000, 2000, 2000, 200, 200},
     {"strip", 16384, 16, 0, 0, 16384, 16, 128, 1},
 };
-enum { JOBS = sizeof kJobs / sizeof kJobs[0], MOST_ROUNDS = 1000 };
+
+/* Planes, uncropped; their sizes name them. */
+typedef struct {
+  uint32_t lanes, w, h, tw, th;
+} Plane;
+
+static const Plane kPlanes[] = {{1, 1920, 1080, 320, 180}, {3, 1920, 1080, 320, 180}, {1, 512, 512, 1024, 1024}};
+enum { JOBS = sizeof kJobs / sizeof kJobs[0], PLANES = sizeof kPlanes / sizeof kPlanes[0], MOST_ROUNDS = 1000 };
 
 typedef enum { ROWS, WHOLE, ORIGINAL, SIMD, PLAIN, SIDES } Side;
 static const char* const kSides[SIDES] = {"ours, by rows", "ours, whole", "original Rust", "libwebp SIMD", "libwebp plain C"};
@@ -268,6 +275,103 @@ static void measure(const Job* j, int translucent, int rounds, double spent[SIDE
   free(argb), free(first), free(l.pixels), free(l.cut), free(l.out), free(l.work);
 }
 
+/* What a side of a plane reads, and room for what it writes. */
+typedef struct {
+  const Plane* plane;
+  uint8_t *bytes, *out;
+  uint32_t* work;
+} LentPlane;
+
+static size_t plane_bytes(const Plane* p) { return (size_t)p->lanes * p->w * p->h; }
+static size_t plane_out(const Plane* p) { return (size_t)p->lanes * p->tw * p->th; }
+
+static double time_plane_rows(LentPlane* l) {
+  const Plane* const p = l->plane;
+  const size_t row = (size_t)p->lanes * p->w, half = (size_t)p->lanes * p->tw, words = JONQUILSAW_WORK_WORDS_OF(p->lanes, p->tw);
+  uint32_t record[JONQUILSAW_RECORD_WORDS], count = 0, taken = 0;
+  const double t = now();
+  if (jonquilsaw_start_plane(p->w, p->h, p->lanes, 0, 0, p->w, p->h, p->tw, p->th, l->work, words, record, JONQUILSAW_RECORD_WORDS)) refuse("start_plane");
+  for (uint32_t y = 0; y < p->h; ++y) {
+    if (jonquilsaw_offer(record, JONQUILSAW_RECORD_WORDS, l->bytes + y * row, row, l->work, words, &count, 1)) refuse("offer");
+    while (jonquilsaw_take(record, JONQUILSAW_RECORD_WORDS, l->out + taken * half, half, l->work, words) == JONQUILSAW_OK) {
+      if (++taken == p->th) break;
+    }
+  }
+  if (taken != p->th) refuse("rows are missing");
+  return now() - t;
+}
+
+#ifndef NO_ORIGINAL
+static double time_plane_original(LentPlane* l) {
+  const Plane* const p = l->plane;
+  const double t = now();
+  void* const made = original_plane(p->lanes, p->w, p->h, l->bytes, p->tw, p->th);
+  const double spent = now() - t;
+  original_plane_free(made, l->out);
+  return spent;
+}
+#endif
+
+#ifndef NO_PLAIN
+static double time_plane_plain(LentPlane* l) {
+  const Plane* const p = l->plane;
+  const CpuInfo features = VP8GetCPUInfo;
+  WebPRescaler r;
+  VP8GetCPUInfo = NULL;
+  const double t = now();
+  const int ok = rescale_whole(&r, (int)p->lanes, (int)p->w, (int)p->h, l->bytes, (size_t)p->lanes * p->w, (int)p->tw, (int)p->th, l->out, l->work);
+  const double spent = now() - t;
+  VP8GetCPUInfo = features;
+  if (!ok) refuse("libwebp's rescaler");
+  return spent;
+}
+#endif
+
+/* Whether libwebp's rescaler is as declared. */
+static int known_rescaler = 0;
+
+static int takes_planes(Side s) { return at_hand(s) && (s == ROWS || s == ORIGINAL || (s == PLAIN && known_rescaler)); }
+
+static double time_plane_side(Side s, LentPlane* l) {
+  switch (s) {
+    case ROWS: return time_plane_rows(l);
+#ifndef NO_ORIGINAL
+    case ORIGINAL: return time_plane_original(l);
+#endif
+#ifndef NO_PLAIN
+    case PLAIN: return time_plane_plain(l);
+#endif
+    default: refuse("no such side");
+  }
+  return 0;
+}
+
+/* As `measure`, in ns for each source byte. */
+static void measure_plane(const Plane* p, int rounds, double spent[SIDES][MOST_ROUNDS]) {
+  const size_t n = plane_bytes(p), out = plane_out(p);
+  uint8_t *const noise = room(n), *const first = room(out);
+  LentPlane l = {p, room(n), room(out), room(4 * JONQUILSAW_WORK_WORDS_OF(p->lanes, p->tw))};
+  uint32_t state = 1;
+  for (size_t i = 0; i < n; ++i) {
+    state = state * 1664525u + 1013904223u;
+    noise[i] = (uint8_t)(state >> 24);
+  }
+  for (int r = -1; r < rounds; ++r) { /* round -1 warms up */
+    int made = 0;
+    for (int k = 0; k < SIDES; ++k) {
+      const Side s = (Side)((k + r + 1) % SIDES);
+      if (!takes_planes(s)) continue;
+      memcpy(l.bytes, noise, n);
+      memset(l.out, 0x5c, out);
+      const double t = time_plane_side(s, &l);
+      if (r >= 0) spent[s][r] = t / (double)n;
+      if (made++ == 0) memcpy(first, l.out, out);
+      else if (memcmp(first, l.out, out)) refuse("the sides do not make the same bytes of a plane");
+    }
+  }
+  free(noise), free(first), free(l.bytes), free(l.out), free(l.work);
+}
+
 /* Peak memory: a translucent picture made by the process itself, nothing kept that the side does not need. */
 
 typedef struct {
@@ -351,8 +455,8 @@ static void heading(const char* first) {
   }
 }
 
-static void ratio(double spent[SIDES][MOST_ROUNDS], Side a, Side b, int rounds) {
-  if (!at_hand(b)) {
+static void ratio(double spent[SIDES][MOST_ROUNDS], Side a, Side b, int rounds, int there) {
+  if (!there) {
     fputs(" - |", stdout);
     return;
   }
@@ -387,9 +491,36 @@ static void times(int wanted) {
     for (int s = 0; s < SIDES; ++s) {
       if (at_hand((Side)s)) printf(" %.2f |", figure(spent[s], rounds).median);
     }
-    ratio(spent, ROWS, ORIGINAL, rounds);
-    ratio(spent, ROWS, SIMD, rounds);
-    ratio(spent, WHOLE, SIMD, rounds);
+    ratio(spent, ROWS, ORIGINAL, rounds, at_hand(ORIGINAL));
+    ratio(spent, ROWS, SIMD, rounds, at_hand(SIMD));
+    ratio(spent, WHOLE, SIMD, rounds, at_hand(SIMD));
+    putchar('\n');
+    fflush(stdout);
+  }
+}
+
+static void plane_times(int wanted) {
+  static double spent[SIDES][MOST_ROUNDS];
+  puts("\nPlanes, lanes scaled as they are: ns of processor time for each source byte, the rest as above:\n");
+  fputs("| plane |", stdout);
+  for (int s = 0; s < SIDES; ++s) {
+    if (takes_planes((Side)s)) printf(" %s |", kSides[s]);
+  }
+  puts(" rows / Rust | rows / plain C |");
+  for (int s = -1; s < SIDES + 2; ++s) {
+    if (s < 0 || s >= SIDES || takes_planes((Side)s)) fputs("|---", stdout);
+  }
+  puts("|");
+  for (int i = 0; i < PLANES; ++i) {
+    const Plane* const p = &kPlanes[i];
+    const int rounds = wanted ? wanted : 45;
+    measure_plane(p, rounds, spent);
+    printf("| %u lane%s, %ux%u to %ux%u |", p->lanes, p->lanes == 1 ? "" : "s", p->w, p->h, p->tw, p->th);
+    for (int s = 0; s < SIDES; ++s) {
+      if (takes_planes((Side)s)) printf(" %.2f |", figure(spent[s], rounds).median);
+    }
+    ratio(spent, ROWS, ORIGINAL, rounds, takes_planes(ORIGINAL));
+    ratio(spent, ROWS, PLAIN, rounds, takes_planes(PLAIN));
     putchar('\n');
     fflush(stdout);
   }
@@ -427,7 +558,15 @@ int main(int argc, char** argv) {
   errno = 0;
   const long wanted = argc > 1 ? strtol(argv[1], &end, 10) : 0;
   if (argc > 2 || (argc > 1 && (errno || end == argv[1] || *end || wanted < 1 || wanted > MOST_ROUNDS))) refuse("rounds: 1 to 1000");
+#ifndef NO_PLAIN
+  const CpuInfo features = VP8GetCPUInfo;
+  VP8GetCPUInfo = NULL;
+  known_rescaler = rescaler_as_declared();
+  VP8GetCPUInfo = features;
+  if (!known_rescaler) puts("bench: libwebp's plain C is left out of planes: its rescaler is not as oracle/rescaler.h declares it");
+#endif
   times((int)wanted);
+  plane_times((int)wanted);
   memory(argv[0]);
   return 0;
 }

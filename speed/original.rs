@@ -1,5 +1,5 @@
-//! The original's two files behind three C functions, for ./bench. They are compiled where they stand; ORIGINAL_MODULES names a file
-//! that declares them as modules.
+//! The original's two files behind C functions, for ./bench. They are compiled where they stand; ORIGINAL_MODULES names a file that
+//! declares them as modules, and `opened`, the text of geometry.rs with a tail that opens its private `rescale_plane`.
 include!(env!("ORIGINAL_MODULES"));
 
 use image::{Dimensions, Image, PixelLayout};
@@ -38,4 +38,24 @@ pub unsafe extern "C" fn original_free(image: *mut Image, out: *mut u8) {
         let bytes = image.as_bytes();
         unsafe { std::ptr::copy_nonoverlapping(bytes.as_ptr(), out, bytes.len()) };
     }
+}
+
+/// A plane scaled by the private function that scales a picture's lanes: its bytes.
+///
+/// # Safety
+/// `bytes` points to lanes × width × height bytes.
+#[unsafe(no_mangle)]
+pub unsafe extern "C" fn original_plane(lanes: u32, width: u32, height: u32, bytes: *const u8, tw: u32, th: u32) -> *mut Vec<u8> {
+    let bytes = unsafe { std::slice::from_raw_parts(bytes, lanes as usize * width as usize * height as usize) };
+    Box::into_raw(Box::new(opened::open_rescale_plane(bytes, width as i32, height as i32, lanes as usize, tw as i32, th as i32)))
+}
+
+/// The plane's bytes go to `out`, and the plane is freed.
+///
+/// # Safety
+/// `plane` is of the function above; `out` has room for its bytes.
+#[unsafe(no_mangle)]
+pub unsafe extern "C" fn original_plane_free(plane: *mut Vec<u8>, out: *mut u8) {
+    let plane = unsafe { Box::from_raw(plane) };
+    unsafe { std::ptr::copy_nonoverlapping(plane.as_ptr(), out, plane.len()) };
 }

@@ -1,4 +1,5 @@
-/* Calls every function of include/jonquilsaw.h: the trials of docs/SCOPE.md, each refusal in its order, and that a refused call leaves every buffer as it was.
+/* Calls every function of include/jonquilsaw.h: the trials of docs/SCOPE.md, planes against its formulas, each refusal in its order, and that a refused call
+ * leaves every buffer as it was.
  * Every buffer is lent with a page behind it that cannot be touched, since the sanitizers look at this file only. Prints one line. */
 #define _DEFAULT_SOURCE
 #include "jonquilsaw.h"
@@ -20,7 +21,7 @@ static void expect(int held, const char *what, int line) {
 }
 #define EXPECT(fact) expect((fact) != 0, #fact, __LINE__)
 
-/* Bytes that end where a page begins that cannot be touched; never given back. */
+/* Bytes that end where a page begins that cannot be touched. */
 static void *lent(size_t bytes) {
     size_t page = (size_t)sysconf(_SC_PAGESIZE);
     size_t room = (bytes + page - 1) / page * page;
@@ -30,6 +31,15 @@ static void *lent(size_t bytes) {
         exit(2);
     }
     return at + (room - bytes);
+}
+
+static void give_back(void *at, size_t bytes) {
+    size_t page = (size_t)sysconf(_SC_PAGESIZE);
+    size_t room = (bytes + page - 1) / page * page;
+    if (munmap((uint8_t *)at + bytes - room, room + page) != 0) {
+        perror("munmap");
+        exit(2);
+    }
 }
 
 static uint8_t *bytes_of(size_t n, uint8_t fill) {
@@ -71,9 +81,9 @@ static void by_job(uint32_t w, uint32_t h, uint32_t layout, uint32_t m, uint32_t
     uint32_t record[JONQUILSAW_RECORD_WORDS], count = 0, taken = 0;
     EXPECT(jonquilsaw_start(w, h, layout, 0, 0, w, h, m, g, work, JONQUILSAW_WORK_WORDS(m), record, JONQUILSAW_RECORD_WORDS) == 0);
     for (uint32_t k = 0; k < h; k++) {
-        EXPECT(jonquilsaw_offer(record, 12, pixels + (size_t)4 * w * k, (size_t)4 * w, work, JONQUILSAW_WORK_WORDS(m), &count, 1) == 0);
+        EXPECT(jonquilsaw_offer(record, 14, pixels + (size_t)4 * w * k, (size_t)4 * w, work, JONQUILSAW_WORK_WORDS(m), &count, 1) == 0);
         EXPECT(count == 1);
-        while (jonquilsaw_take(record, 12, out + (size_t)4 * m * taken, (size_t)4 * m, work, JONQUILSAW_WORK_WORDS(m)) == 0) taken++;
+        while (jonquilsaw_take(record, 14, out + (size_t)4 * m * taken, (size_t)4 * m, work, JONQUILSAW_WORK_WORDS(m)) == 0) taken++;
     }
     EXPECT(taken == g);
     *flag = record[11];
@@ -117,12 +127,12 @@ static void trials(void) {
 static void strips(void) {
     size_t row = (size_t)4 * 16384;
     uint8_t *white = bytes_of(row, 255), *out = bytes_of(4, 7);
-    uint32_t *work = words_of(8, 0), *record = words_of(12, 0), count;
+    uint32_t *work = words_of(8, 0), *record = words_of(14, 0), count;
     for (uint32_t h = 1028; h <= 1029; h++) {
-        EXPECT(jonquilsaw_start(16384, h, 0, 0, 0, 16384, h, 1, 1, work, 8, record, 12) == 0);
+        EXPECT(jonquilsaw_start(16384, h, 0, 0, 0, 16384, h, 1, 1, work, 8, record, 14) == 0);
         for (uint32_t k = 0; k < h; k++)
-            if (jonquilsaw_offer(record, 12, white, row, work, 8, &count, 1) != 0) failures++;
-        EXPECT(jonquilsaw_take(record, 12, out, 4, work, 8) == 0);
+            if (jonquilsaw_offer(record, 14, white, row, work, 8, &count, 1) != 0) failures++;
+        EXPECT(jonquilsaw_take(record, 14, out, 4, work, 8) == 0);
         EXPECT(all(out, 4, h == 1028 ? 255 : 0));
         EXPECT(record[11] == (h == 1028 ? 0u : 1u));
     }
@@ -131,79 +141,79 @@ static void strips(void) {
 /* Preview rows ready after each source row, counted by takes. */
 static void schedule(uint32_t h, uint32_t g, const uint32_t *made) {
     uint8_t *row = bytes_of(4, 255), *out = bytes_of(4, 0);
-    uint32_t *work = words_of(8, 0), *record = words_of(12, 0), count = 0, taken = 0;
-    EXPECT(jonquilsaw_start(1, h, 0, 0, 0, 1, h, 1, g, work, 8, record, 12) == 0);
+    uint32_t *work = words_of(8, 0), *record = words_of(14, 0), count = 0, taken = 0;
+    EXPECT(jonquilsaw_start(1, h, 0, 0, 0, 1, h, 1, g, work, 8, record, 14) == 0);
     for (uint32_t k = 0; k <= h; k++) {
-        while (jonquilsaw_take(record, 12, out, 4, work, 8) == 0) taken++;
+        while (jonquilsaw_take(record, 14, out, 4, work, 8) == 0) taken++;
         EXPECT(taken == made[k]);
         EXPECT(record[9] == k && record[10] == taken);
-        if (k < h) EXPECT(jonquilsaw_offer(record, 12, row, 4, work, 8, &count, 1) == 0 && count == 1);
+        if (k < h) EXPECT(jonquilsaw_offer(record, 14, row, 4, work, 8, &count, 1) == 0 && count == 1);
     }
-    EXPECT(jonquilsaw_offer(record, 12, row, 4, work, 8, &count, 1) == JONQUILSAW_ALL_ACCEPTED);
+    EXPECT(jonquilsaw_offer(record, 14, row, 4, work, 8, &count, 1) == JONQUILSAW_ALL_ACCEPTED);
 }
 
 static void starts(void) {
-    uint32_t *work = words_of(20, 5), *record = words_of(14, 6);
-    const uint32_t fresh[12] = {5, 4, 2, 1, 2, 3, 2, 2, 7, 0, 0, 0};
+    uint32_t *work = words_of(20, 5), *record = words_of(16, 6);
+    const uint32_t fresh[14] = {5, 4, 2, 1, 2, 3, 2, 2, 7, 0, 0, 0, JONQUILSAW_PICTURE, JONQUILSAW_PIXEL_LANES};
     /* refused, each ahead of the next in the order; nothing is written */
-    EXPECT(jonquilsaw_start(0, 4, 3, 9, 9, 9, 9, 2, 7, work, 0, record, 14) == JONQUILSAW_BOUNDARY);
-    EXPECT(jonquilsaw_start(0, 4, 2, 9, 9, 9, 9, 2, 7, work, 0, record, 11) == JONQUILSAW_BOUNDARY);
-    EXPECT(jonquilsaw_start(0, 4, 2, 9, 9, 9, 9, 2, 7, work, 0, record, 12) == JONQUILSAW_INVALID_DIMENSIONS);
-    EXPECT(jonquilsaw_start(5, 4, 2, 1, 2, 0, 2, 2, 7, work, 0, record, 12) == JONQUILSAW_INVALID_DIMENSIONS);
-    EXPECT(jonquilsaw_start(5, 4, 2, 1, 2, 3, 2, 16385, 7, work, 0, record, 12) == JONQUILSAW_INVALID_DIMENSIONS);
-    EXPECT(jonquilsaw_start(5, 4, 2, 4294967295u, 2, 1, 2, 2, 7, work, 0, record, 12) == JONQUILSAW_CROP_OUT_OF_BOUNDS);
-    EXPECT(jonquilsaw_start(5, 4, 2, 1, 2, 3, 2, 2, 7, work, 15, record, 12) == JONQUILSAW_WORK_LENGTH);
-    EXPECT(words_all(work, 20, 5) && words_all(record, 14, 6));
-    /* accepted: twelve words and sixteen work values, no more */
-    EXPECT(jonquilsaw_start(5, 4, 2, 1, 2, 3, 2, 2, 7, work, 20, record, 14) == 0);
-    EXPECT(memcmp(record, fresh, sizeof fresh) == 0 && words_all(record + 12, 2, 6));
+    EXPECT(jonquilsaw_start(0, 4, 3, 9, 9, 9, 9, 2, 7, work, 0, record, 16) == JONQUILSAW_BOUNDARY);
+    EXPECT(jonquilsaw_start(0, 4, 2, 9, 9, 9, 9, 2, 7, work, 0, record, 13) == JONQUILSAW_BOUNDARY);
+    EXPECT(jonquilsaw_start(0, 4, 2, 9, 9, 9, 9, 2, 7, work, 0, record, 14) == JONQUILSAW_INVALID_DIMENSIONS);
+    EXPECT(jonquilsaw_start(5, 4, 2, 1, 2, 0, 2, 2, 7, work, 0, record, 14) == JONQUILSAW_INVALID_DIMENSIONS);
+    EXPECT(jonquilsaw_start(5, 4, 2, 1, 2, 3, 2, 16385, 7, work, 0, record, 14) == JONQUILSAW_INVALID_DIMENSIONS);
+    EXPECT(jonquilsaw_start(5, 4, 2, 4294967295u, 2, 1, 2, 2, 7, work, 0, record, 14) == JONQUILSAW_CROP_OUT_OF_BOUNDS);
+    EXPECT(jonquilsaw_start(5, 4, 2, 1, 2, 3, 2, 2, 7, work, 15, record, 14) == JONQUILSAW_WORK_LENGTH);
+    EXPECT(words_all(work, 20, 5) && words_all(record, 16, 6));
+    /* accepted: fourteen words and sixteen work values, no more */
+    EXPECT(jonquilsaw_start(5, 4, 2, 1, 2, 3, 2, 2, 7, work, 20, record, 16) == 0);
+    EXPECT(memcmp(record, fresh, sizeof fresh) == 0 && words_all(record + 14, 2, 6));
     EXPECT(words_all(work, 16, 0) && words_all(work + 16, 4, 5));
 }
 
 /* The refusals of offer and take in their order, and what they move on, of a 2 by 6 picture of bytes 100 to 1 by 4. */
 static void offers_and_takes(void) {
     uint8_t *rows = bytes_of(48, 100), *out = bytes_of(4, 9), *kept_rows = bytes_of(48, 100);
-    uint32_t *work = words_of(10, 3), *record = words_of(13, 4), *count = words_of(2, 8);
-    uint32_t *kept_work = words_of(10, 0), *kept_record = words_of(13, 0);
-    EXPECT(jonquilsaw_start(2, 6, 0, 0, 0, 2, 6, 1, 4, work, 10, record, 13) == 0);
+    uint32_t *work = words_of(10, 3), *record = words_of(15, 4), *count = words_of(2, 8);
+    uint32_t *kept_work = words_of(10, 0), *kept_record = words_of(15, 0);
+    EXPECT(jonquilsaw_start(2, 6, 0, 0, 0, 2, 6, 1, 4, work, 10, record, 15) == 0);
     memcpy(kept_work, work, 40);
-    memcpy(kept_record, record, 52);
-#define KEPT (memcmp(work, kept_work, 40) == 0 && memcmp(record, kept_record, 52) == 0 && words_all(count, 2, 8) && all(out, 4, 9) && memcmp(rows, kept_rows, 48) == 0)
-    EXPECT(jonquilsaw_offer(record, 11, rows, 0, work, 0, count, 0) == JONQUILSAW_BOUNDARY && KEPT);
-    EXPECT(jonquilsaw_offer(record, 11, rows, 0, work, 0, count, 1) == JONQUILSAW_INVALID_RECORD && KEPT);
-    EXPECT(jonquilsaw_take(record, 11, out, 0, work, 0) == JONQUILSAW_INVALID_RECORD && KEPT);
-    /* words that make no record: the layout, the flag, a flag before the first row, a row taken too soon, too many rows, an empty crop */
+    memcpy(kept_record, record, 60);
+#define KEPT (memcmp(work, kept_work, 40) == 0 && memcmp(record, kept_record, 60) == 0 && words_all(count, 2, 8) && all(out, 4, 9) && memcmp(rows, kept_rows, 48) == 0)
+    EXPECT(jonquilsaw_offer(record, 13, rows, 0, work, 0, count, 0) == JONQUILSAW_BOUNDARY && KEPT);
+    EXPECT(jonquilsaw_offer(record, 13, rows, 0, work, 0, count, 1) == JONQUILSAW_INVALID_RECORD && KEPT);
+    EXPECT(jonquilsaw_take(record, 13, out, 0, work, 0) == JONQUILSAW_INVALID_RECORD && KEPT);
+    /* words that make no record: the layout, the flag, a flag before the first row, a row taken too soon, too many rows, an empty crop, the kind, the lanes */
     const struct {
         int place;
         uint32_t word;
-    } wrong[] = {{2, 3}, {2, 4294967295u}, {11, 2}, {11, 1}, {10, 1}, {9, 7}, {5, 0}, {0, 16385}, {3, 1}};
+    } wrong[] = {{2, 3}, {2, 4294967295u}, {11, 2}, {11, 1}, {10, 1}, {9, 7}, {5, 0}, {0, 16385}, {3, 1}, {12, 2}, {13, 3}, {13, 5}};
     for (size_t i = 0; i < sizeof wrong / sizeof *wrong; i++) {
         uint32_t right = record[wrong[i].place];
         record[wrong[i].place] = kept_record[wrong[i].place] = wrong[i].word;
-        EXPECT(jonquilsaw_offer(record, 13, rows, 0, work, 0, count, 1) == JONQUILSAW_INVALID_RECORD && KEPT);
-        EXPECT(jonquilsaw_take(record, 13, out, 0, work, 0) == JONQUILSAW_INVALID_RECORD && KEPT);
+        EXPECT(jonquilsaw_offer(record, 15, rows, 0, work, 0, count, 1) == JONQUILSAW_INVALID_RECORD && KEPT);
+        EXPECT(jonquilsaw_take(record, 15, out, 0, work, 0) == JONQUILSAW_INVALID_RECORD && KEPT);
         record[wrong[i].place] = kept_record[wrong[i].place] = right;
     }
-    EXPECT(jonquilsaw_offer(record, 13, rows, 0, work, 0, count, 1) == JONQUILSAW_PIXEL_BUFFER_MISMATCH && KEPT);
-    EXPECT(jonquilsaw_offer(record, 13, NULL, 0, work, 10, count, 1) == JONQUILSAW_PIXEL_BUFFER_MISMATCH && KEPT);
-    EXPECT(jonquilsaw_offer(record, 13, rows, 12, work, 0, count, 1) == JONQUILSAW_PIXEL_BUFFER_MISMATCH && KEPT);
-    EXPECT(jonquilsaw_offer(record, 13, rows, 8, work, 7, count, 1) == JONQUILSAW_WORK_LENGTH && KEPT);
-    EXPECT(jonquilsaw_take(record, 13, out, 3, work, 7) == JONQUILSAW_OUTPUT_LENGTH && KEPT);
-    EXPECT(jonquilsaw_take(record, 13, out, 4, work, 7) == JONQUILSAW_WORK_LENGTH && KEPT);
-    EXPECT(jonquilsaw_take(record, 13, out, 4, work, 10) == JONQUILSAW_NONE_READY && KEPT);
+    EXPECT(jonquilsaw_offer(record, 15, rows, 0, work, 0, count, 1) == JONQUILSAW_PIXEL_BUFFER_MISMATCH && KEPT);
+    EXPECT(jonquilsaw_offer(record, 15, NULL, 0, work, 10, count, 1) == JONQUILSAW_PIXEL_BUFFER_MISMATCH && KEPT);
+    EXPECT(jonquilsaw_offer(record, 15, rows, 12, work, 0, count, 1) == JONQUILSAW_PIXEL_BUFFER_MISMATCH && KEPT);
+    EXPECT(jonquilsaw_offer(record, 15, rows, 8, work, 7, count, 1) == JONQUILSAW_WORK_LENGTH && KEPT);
+    EXPECT(jonquilsaw_take(record, 15, out, 3, work, 7) == JONQUILSAW_OUTPUT_LENGTH && KEPT);
+    EXPECT(jonquilsaw_take(record, 15, out, 4, work, 7) == JONQUILSAW_WORK_LENGTH && KEPT);
+    EXPECT(jonquilsaw_take(record, 15, out, 4, work, 10) == JONQUILSAW_NONE_READY && KEPT);
     /* all six rows lent: the second makes a row ready */
-    EXPECT(jonquilsaw_offer(record, 13, rows, 48, work, 10, count, 2) == 0);
-    EXPECT(count[0] == 2 && count[1] == 8 && record[9] == 2 && record[10] == 0 && record[12] == 4);
+    EXPECT(jonquilsaw_offer(record, 15, rows, 48, work, 10, count, 2) == 0);
+    EXPECT(count[0] == 2 && count[1] == 8 && record[9] == 2 && record[10] == 0 && record[14] == 4);
     EXPECT(memcmp(record, kept_record, 36) == 0 && memcmp(rows, kept_rows, 48) == 0);
     EXPECT(work[8] == 3 && work[9] == 3);
     memcpy(kept_work, work, 40);
-    memcpy(kept_record, record, 52);
+    memcpy(kept_record, record, 60);
     count[0] = 8;
-    EXPECT(jonquilsaw_offer(record, 13, rows, 8, work, 7, count, 1) == JONQUILSAW_WORK_LENGTH && KEPT);
-    EXPECT(jonquilsaw_offer(record, 13, rows, 8, work, 10, count, 1) == JONQUILSAW_ROW_READY && KEPT);
-    EXPECT(jonquilsaw_take(record, 13, out, 4, work, 10) == 0);
+    EXPECT(jonquilsaw_offer(record, 15, rows, 8, work, 7, count, 1) == JONQUILSAW_WORK_LENGTH && KEPT);
+    EXPECT(jonquilsaw_offer(record, 15, rows, 8, work, 10, count, 1) == JONQUILSAW_ROW_READY && KEPT);
+    EXPECT(jonquilsaw_take(record, 15, out, 4, work, 10) == 0);
     EXPECT(out[0] == 99 && out[1] == 99 && out[2] == 99 && out[3] == 100);
-    EXPECT(record[10] == 1 && record[11] == 1 && record[12] == 4 && work[8] == 3 && work[9] == 3);
+    EXPECT(record[10] == 1 && record[11] == 1 && record[14] == 4 && work[8] == 3 && work[9] == 3);
 #undef KEPT
 }
 
@@ -305,7 +315,7 @@ static void with_types(void) {
     const jonquilsaw_size source = {2, 3}, target = {1, 2};
     const jonquilsaw_rect crop = {1, 1, 1, 2};
     const jonquilsaw_plan plan = {source, JONQUILSAW_BGRA8, crop, target};
-    const uint32_t fresh[12] = {2, 3, 2, 1, 1, 1, 2, 1, 2, 0, 0, 0};
+    const uint32_t fresh[14] = {2, 3, 2, 1, 1, 1, 2, 1, 2, 0, 0, 0, JONQUILSAW_PICTURE, 4};
     uint8_t *pixels = bytes_of(24, 255), *out = bytes_of(8, 7), *whole = bytes_of(8, 9);
     uint32_t *work = words_of(8, 5), *flag = words_of(1, 7), accepted = 0;
     jonquilsaw_job job;
@@ -318,6 +328,7 @@ static void with_types(void) {
     EXPECT(jonquilsaw_job_offer(&job, pixels + 16, 8, work, 8, &accepted) == JONQUILSAW_OK && accepted == 1);
     EXPECT(jonquilsaw_job_take(&job, out + 4, 4, work, 8) == JONQUILSAW_OK);
     EXPECT(jonquilsaw_job_accepted(&job) == 3 && jonquilsaw_job_taken(&job) == 2 && jonquilsaw_job_has_alpha(&job) == 1);
+    EXPECT(jonquilsaw_job_kind(&job) == JONQUILSAW_PICTURE && jonquilsaw_job_lanes(&job) == 4 && jonquilsaw_job_row_bytes(&job) == 8 && jonquilsaw_job_out_bytes(&job) == 4);
     EXPECT(jonquilsaw_picture_crop(source, JONQUILSAW_BGRA8, pixels, 24, crop, whole, 8, flag) == JONQUILSAW_OK && *flag == 1);
     EXPECT(memcmp(whole, pixels + 12, 4) == 0 && memcmp(whole + 4, pixels + 20, 4) == 0);
     uint8_t *scaled = bytes_of(8, 3);
@@ -332,13 +343,413 @@ static void with_types(void) {
     EXPECT(all_of.x == 0 && all_of.y == 0 && all_of.width == 2 && all_of.height == 3);
 
     /* each number has words of its own */
-    const uint32_t numbers[] = {0, 1, 2, 3, 4, 5, 6, 7, 8, 9, 100, 101};
+    const uint32_t numbers[] = {0, 1, 2, 3, 4, 5, 6, 7, 8, 9, 10, 100, 101};
     for (size_t i = 0; i < sizeof numbers / sizeof *numbers; i++)
         for (size_t k = 0; k < i; k++) EXPECT(strcmp(jonquilsaw_meaning(numbers[i]), jonquilsaw_meaning(numbers[k])) != 0);
-    EXPECT(strcmp(jonquilsaw_meaning(10), jonquilsaw_meaning(4294967295u)) == 0);
+    EXPECT(strcmp(jonquilsaw_meaning(11), jonquilsaw_meaning(4294967295u)) == 0);
     char version[32];
     snprintf(version, sizeof version, "%d.%d.%d", JONQUILSAW_VERSION_MAJOR, JONQUILSAW_VERSION_MINOR, JONQUILSAW_VERSION_PATCH);
     EXPECT(strcmp(version, JONQUILSAW_VERSION) == 0);
+}
+
+/* ---- planes */
+
+/* One lane by the closed formulas of docs/SCOPE.md, "A row comes in" and "A row goes out"; no code is shared with the library. */
+
+static uint64_t frac(uint64_t a, uint64_t d) { return (a << 32) / d % ((uint64_t)1 << 32); }
+static uint64_t mult(uint64_t a, uint64_t b) { return (a * b + ((uint64_t)1 << 31)) >> 32; }
+static uint64_t ceiling(uint64_t a, uint64_t b) { return (a + b - 1) / b; }
+
+/* What a row of n bytes, `step` apart, brings to m columns. */
+static void row_in(const uint8_t *row, size_t step, uint64_t n, uint64_t m, uint32_t *values) {
+    uint64_t carry = 0;
+    for (uint64_t j = 0; j < m; j++) {
+        uint64_t sum = 0;
+        if (m <= n) {
+            const uint64_t from = ceiling(j * n, m), to = ceiling((j + 1) * n, m), last = row[(to - 1) * step] * (to * m - (j + 1) * n);
+            for (uint64_t i = from; i < to; i++) sum += row[i * step];
+            values[j] = (uint32_t)((carry + sum) * m - last);
+            carry = mult(last, frac(1, m));
+        } else {
+            for (uint64_t i = 0; i < n; i++) {
+                const uint64_t p = j * (n - 1), at = i * (m - 1), off = p < at ? at - p : p - at;
+                sum += off < m - 1 ? row[i * step] * (m - 1 - off) : 0;
+            }
+            values[j] = (uint32_t)sum;
+        }
+    }
+}
+
+/* Preview row y after u rows; the halves move on. */
+static void row_out(uint32_t *first, uint32_t *second, uint64_t y, uint64_t u, uint64_t n, uint64_t h, uint64_t m, uint64_t g, uint8_t *out, size_t step) {
+    const uint64_t span = m <= n ? n : m - 1, q = g <= h ? (g << 32) / (span * h) : 0;
+    const uint64_t d = g <= h ? u * g - (y + 1) * h : (u - 1) * (g - 1) - y * (h - 1);
+    for (uint64_t j = 0; j < m; j++) {
+        uint64_t byte;
+        if (g <= h) {
+            const uint32_t f = d == 0 ? 0 : (uint32_t)((uint64_t)second[j] * (uint32_t)(frac(1, g) * d) >> 32);
+            byte = q >> 32 ? first[j] % 256 : mult((uint32_t)(first[j] - f), q);
+            first[j] = q >> 32 ? 0 : f;
+        } else {
+            const uint64_t b = frac(d, g - 1), newer = u % 2 ? second[j] : first[j], older = u % 2 ? first[j] : second[j];
+            byte = mult(d == 0 ? newer : ((((uint64_t)1 << 32) - b) * newer + b * older + ((uint64_t)1 << 31)) >> 32, frac(1, span));
+        }
+        out[j * step] = (uint8_t)(byte > 255 ? 255 : byte);
+    }
+}
+
+/* How many preview rows u rows make. */
+static uint64_t made_by(uint64_t u, uint64_t h, uint64_t g) {
+    if (g <= h) return u * g / h;
+    return u == 0 ? 0 : h == 1 ? g : 1 + (u - 1) * (g - 1) / (h - 1);
+}
+
+/* All lanes of the crop of a plane, scaled. */
+static void by_formula(const jonquilsaw_plane_plan *p, const uint8_t *bytes, uint8_t *out) {
+    const size_t m = p->target.width, lanes = p->lanes;
+    uint32_t *halves[2] = {calloc(m, 4), calloc(m, 4)}, *values = calloc(m, 4);
+    for (size_t lane = 0; lane < lanes; lane++) {
+        uint64_t y = 0;
+        memset(halves[0], 0, 4 * m);
+        memset(halves[1], 0, 4 * m);
+        for (uint64_t u = 1; u <= p->crop.height; u++) {
+            row_in(bytes + ((p->crop.y + u - 1) * p->source.width + p->crop.x) * lanes + lane, lanes, p->crop.width, m, values);
+            memcpy(halves[p->target.height <= p->crop.height || u % 2 ? 1 : 0], values, 4 * m);
+            for (size_t j = 0; j < m && p->target.height <= p->crop.height; j++) halves[0][j] += values[j];
+            for (; y < made_by(u, p->crop.height, p->target.height); y++)
+                row_out(halves[0], halves[1], y, u, p->crop.width, p->crop.height, m, p->target.height, out + y * m * lanes + lane, lanes);
+        }
+        EXPECT(y == p->target.height);
+    }
+    free(halves[0]);
+    free(halves[1]);
+    free(values);
+}
+
+static uint32_t state = 1;
+
+static uint8_t any_byte(void) {
+    state = state * 1664525u + 1013904223u;
+    return (uint8_t)(state >> 24);
+}
+
+/* A plane by a job that is lent `most` rows at a time, or fewer where fewer are left, with work values and words behind those that it needs. */
+static void by_plane_job(const jonquilsaw_plane_plan *p, const uint8_t *bytes, uint32_t most, uint8_t *out, uint32_t *work_after) {
+    const size_t row = (size_t)p->lanes * p->source.width, line = (size_t)p->lanes * p->target.width, need = JONQUILSAW_WORK_WORDS_OF(p->lanes, p->target.width);
+    const uint32_t fresh[14] = {p->source.width, p->source.height, 0, p->crop.x, p->crop.y, p->crop.width, p->crop.height, p->target.width, p->target.height, 0, 0, 0, JONQUILSAW_PLANE, p->lanes};
+    uint32_t *work = words_of(need + 3, 77), *record = words_of(16, 66), *count = words_of(2, 55), accepted = 0, taken = 0;
+    EXPECT(jonquilsaw_start_plane(p->source.width, p->source.height, p->lanes, p->crop.x, p->crop.y, p->crop.width, p->crop.height, p->target.width, p->target.height, work, need + 3, record, 16) == 0);
+    EXPECT(memcmp(record, fresh, sizeof fresh) == 0 && words_all(record + 14, 2, 66));
+    EXPECT(words_all(work, need, 0) && words_all(work + need, 3, 77));
+    while (accepted < p->source.height) {
+        const uint32_t left = p->source.height - accepted, rows = most < left ? most : left;
+        EXPECT(jonquilsaw_offer(record, 16, bytes + row * accepted, row * rows, work, need + 3, count, 2) == 0);
+        if (count[0] == 0 || count[0] > rows) {
+            fprintf(stderr, "bindings/c/test.c: %u rows accepted of %u\n", count[0], rows);
+            exit(1);
+        }
+        accepted += count[0];
+        while (jonquilsaw_take(record, 16, out + line * taken, taken < p->target.height ? line : 0, work, need + 3) == 0) taken++;
+        EXPECT(record[9] == accepted && record[10] == taken);
+        EXPECT(taken == made_by(accepted < p->crop.y ? 0 : accepted - p->crop.y < p->crop.height ? accepted - p->crop.y : p->crop.height, p->crop.height, p->target.height));
+    }
+    EXPECT(taken == p->target.height && count[1] == 55);
+    EXPECT(memcmp(record, fresh, 36) == 0 && record[11] == 0 && record[12] == JONQUILSAW_PLANE && record[13] == p->lanes && words_all(record + 14, 2, 66));
+    EXPECT(words_all(work + need, 3, 77));
+    memcpy(work_after, work, 4 * need);
+    give_back(work, 4 * (need + 3));
+    give_back(record, 64);
+    give_back(count, 8);
+}
+
+/* Rows lent one by one, two by two and all at once make the bytes of the formulas, and the same work values. */
+static void plane(const jonquilsaw_plane_plan *p, int all_white) {
+    const size_t n = (size_t)p->lanes * p->source.width * p->source.height, o = (size_t)p->lanes * p->target.width * p->target.height;
+    const size_t need = JONQUILSAW_WORK_WORDS_OF(p->lanes, p->target.width);
+    const uint32_t most[3] = {1, 2, p->source.height};
+    uint8_t *bytes = bytes_of(n, 255), *want = bytes_of(o, 0), *out = bytes_of(o, 0);
+    uint32_t *work = words_of(need, 0), *again = words_of(need, 0);
+    for (size_t i = 0; i < n && !all_white; i++) bytes[i] = any_byte();
+    by_formula(p, bytes, want);
+    for (int i = 0; i < 3; i++) {
+        memset(out, 1, o);
+        by_plane_job(p, bytes, most[i], out, i == 0 ? work : again);
+        EXPECT(memcmp(out, want, o) == 0);
+        EXPECT(i == 0 || memcmp(work, again, 4 * need) == 0);
+    }
+    give_back(bytes, n);
+    give_back(want, o);
+    give_back(out, o);
+    give_back(work, 4 * need);
+    give_back(again, 4 * need);
+}
+
+static void planes_of_lanes(void) {
+    const uint32_t from[] = {1, 2, 3, 6, 9}, to[] = {1, 2, 3, 5, 6, 8};
+    const size_t froms = sizeof from / sizeof *from, tos = sizeof to / sizeof *to;
+    for (uint32_t lanes = 1; lanes <= JONQUILSAW_MAX_LANES; lanes++) {
+        for (size_t i = 0; i < froms * froms * tos * tos; i++) {
+            const uint32_t w = from[i % froms], h = from[i / froms % froms], m = to[i / froms / froms % tos], g = to[i / froms / froms / tos];
+            const jonquilsaw_plane_plan whole = {{w, h}, lanes, {0, 0, w, h}, {m, g}}, part = {{w + 3, h + 3}, lanes, {2, 1, w, h}, {m, g}};
+            plane(&whole, 0);
+            plane(&part, 0);
+        }
+        const jonquilsaw_plane_plan down = {{211, 97}, lanes, {7, 5, 190, 83}, {64, 31}}, up = {{64, 31}, lanes, {3, 2, 57, 27}, {190, 83}};
+        plane(&down, 0);
+        plane(&up, 0);
+    }
+    /* white strips, the last of which wraps, and the white 1 by 6 whose last byte is 254 */
+    for (uint32_t h = 1028; h <= 1029; h++) {
+        const jonquilsaw_plane_plan strip = {{16384, h}, 1, {0, 0, 16384, h}, {1, 1}};
+        plane(&strip, 1);
+    }
+    const jonquilsaw_plane_plan six = {{1, 6}, 3, {0, 0, 1, 6}, {1, 5}};
+    plane(&six, 1);
+}
+
+/* A plane of four lanes is no picture: nothing is matted or restored. Where a picture's alpha is 255, in and out, both are the same. */
+static void four_lanes(void) {
+    const jonquilsaw_size source = {7, 9}, targets[4] = {{7, 9}, {4, 5}, {10, 13}, {5, 7}};
+    for (uint32_t layout = 0; layout < 3; layout++) {
+        for (int t = 0; t < 4; t++) {
+            for (int opaque = 0; opaque < 2; opaque++) {
+                const jonquilsaw_plane_plan plan = {source, 4, jonquilsaw_whole(source), targets[t]};
+                const size_t n = (size_t)4 * 7 * 9, o = (size_t)4 * plan.target.width * plan.target.height, v = JONQUILSAW_WORK_WORDS(plan.target.width);
+                const int alpha = places[layout][3];
+                uint8_t *bytes = bytes_of(n, 0), *as_plane = bytes_of(o, 0), *as_picture = bytes_of(o, 0);
+                uint32_t *work = words_of(v, 0), flag = 7;
+                for (size_t i = 0; i < n; i++) bytes[i] = opaque && (int)(i % 4) == alpha ? 255 : any_byte();
+                by_plane_job(&plan, bytes, 9, as_plane, work);
+                EXPECT(jonquilsaw_resize(7, 9, layout, plan.target.width, plan.target.height, bytes, n, as_picture, o, work, v, &flag, 1) == 0);
+                EXPECT(opaque || memcmp(as_plane, as_picture, o) != 0);
+                EXPECT(t != 0 || memcmp(as_plane, bytes, n) == 0);
+                for (size_t i = 0; i < o && opaque; i += 4) {
+                    EXPECT(as_plane[i + (size_t)alpha] >= 254 && as_plane[i + (size_t)alpha] == as_picture[i + (size_t)alpha]);
+                    EXPECT(as_plane[i + (size_t)alpha] != 255 || memcmp(as_plane + i, as_picture + i, 4) == 0);
+                }
+            }
+        }
+    }
+    /* colour 200 with alpha 128 stays 200, where a picture's becomes 199 */
+    const jonquilsaw_plane_plan one = {{1, 1}, 4, {0, 0, 1, 1}, {1, 1}};
+    uint8_t *in = bytes_of(4, 200), *out = bytes_of(4, 0);
+    uint32_t *work = words_of(8, 0);
+    in[3] = 128;
+    by_plane_job(&one, in, 1, out, work);
+    EXPECT(memcmp(in, out, 4) == 0);
+}
+
+/* One wrong argument of a start: its place, its value and the number that it earns. */
+typedef struct {
+    int place;
+    uint64_t value;
+    uint32_t number;
+} wrong;
+
+/* Tries every wrong argument alone and with every other: of two numbers the one earlier in the order is the answer. */
+static void every_two(const uint64_t *right, size_t places_of, const wrong *all_wrong, size_t wrongs, const uint32_t *order, uint32_t (*call)(const uint64_t *), int (*kept)(void)) {
+    for (size_t i = 0; i < wrongs; i++) {
+        for (size_t k = 0; k <= i; k++) {
+            uint64_t given[16];
+            if (k != i && all_wrong[i].place == all_wrong[k].place) continue;
+            memcpy(given, right, places_of * sizeof *right);
+            given[all_wrong[i].place] = all_wrong[i].value;
+            given[all_wrong[k].place] = all_wrong[k].value;
+            const uint32_t *first = order;
+            while (*first != all_wrong[i].number && *first != all_wrong[k].number) first++;
+            EXPECT(call(given) == *first);
+            EXPECT(kept());
+        }
+    }
+}
+
+/* A plane of three lanes, 5 by 4, whose crop 3 by 2 at (1, 2) is scaled to 2 by 7. */
+static uint32_t *lent_work, *lent_record;
+
+static uint32_t call_start_plane(const uint64_t *a) {
+    return jonquilsaw_start_plane((uint32_t)a[0], (uint32_t)a[1], (uint32_t)a[2], (uint32_t)a[3], (uint32_t)a[4], (uint32_t)a[5], (uint32_t)a[6], (uint32_t)a[7], (uint32_t)a[8], lent_work, a[9], lent_record, a[10]);
+}
+
+static int start_plane_kept(void) { return words_all(lent_work, 14, 5) && words_all(lent_record, 15, 6); }
+
+static void starts_of_planes(void) {
+    const uint64_t right[11] = {5, 4, 3, 1, 2, 3, 2, 2, 7, 14, 15}, past = 16385, most = 4294967295u;
+    const wrong all_wrong[] = {
+        {10, 13, 100}, {10, 0, 100},
+        {0, 0, 1}, {0, past, 1}, {0, most, 1}, {1, 0, 1}, {1, past, 1}, {1, most, 1}, {5, 0, 1}, {6, 0, 1}, {7, 0, 1}, {7, past, 1}, {7, most, 1}, {8, 0, 1}, {8, past, 1}, {8, most, 1},
+        {2, 0, 10}, {2, 5, 10}, {2, most, 10},
+        {3, 3, 2}, {3, most, 2}, {4, 3, 2}, {4, most, 2}, {5, 5, 2}, {5, past, 2}, {5, most, 2}, {6, 3, 2}, {6, past, 2}, {6, most, 2},
+        {9, 11, 5}, {9, 0, 5}};
+    const uint32_t order[] = {100, 1, 10, 2, 5}, fresh[14] = {5, 4, 0, 1, 2, 3, 2, 2, 7, 0, 0, 0, JONQUILSAW_PLANE, 3};
+    lent_work = words_of(14, 5);
+    lent_record = words_of(15, 6);
+    every_two(right, 11, all_wrong, sizeof all_wrong / sizeof *all_wrong, order, call_start_plane, start_plane_kept);
+    EXPECT(call_start_plane(right) == 0);
+    EXPECT(memcmp(lent_record, fresh, sizeof fresh) == 0 && lent_record[14] == 6);
+    EXPECT(words_all(lent_work, 12, 0) && words_all(lent_work + 12, 2, 5));
+    /* each lane count asks for so many work values */
+    for (uint32_t lanes = 1; lanes <= 4; lanes++) {
+        uint32_t *work = words_of(4 * lanes, 5), *record = words_of(14, 6);
+        EXPECT(jonquilsaw_start_plane(5, 4, lanes, 1, 2, 3, 2, 2, 7, work, 4 * lanes - 1, record, 14) == JONQUILSAW_WORK_LENGTH);
+        EXPECT(words_all(work, 4 * lanes, 5) && words_all(record, 14, 6));
+        EXPECT(jonquilsaw_start_plane(5, 4, lanes, 1, 2, 3, 2, 2, 7, work, 4 * lanes, record, 14) == 0);
+        EXPECT(words_all(work, 4 * lanes, 0) && record[12] == JONQUILSAW_PLANE && record[13] == lanes);
+    }
+}
+
+/* Three planes, 5 by 4 to 3 by 7, so 3 by 2 to 2 by 4 for chroma: 6, 4 and 4 work values. */
+static uint32_t *three_works[3], *three_records[3];
+
+static uint32_t call_start_planes(const uint64_t *a) {
+    return jonquilsaw_start_planes((uint32_t)a[0], (uint32_t)a[1], (uint32_t)a[2], (uint32_t)a[3], three_works[0], a[4], three_works[1], a[5], three_works[2], a[6], three_records[0], a[7], three_records[1], a[8], three_records[2], a[9]);
+}
+
+static int start_planes_kept(void) {
+    for (uint32_t i = 0; i < 3; i++)
+        if (!words_all(three_works[i], 8, 5 + i) || !words_all(three_records[i], 15, 8 + i)) return 0;
+    return 1;
+}
+
+static void starts_of_three(void) {
+    const uint64_t right[10] = {5, 4, 3, 7, 8, 8, 8, 15, 15, 15}, past = 16385, most = 4294967295u;
+    const wrong all_wrong[] = {
+        {7, 13, 100}, {7, 0, 100}, {8, 13, 100}, {8, 0, 100}, {9, 13, 100}, {9, 0, 100},
+        {0, 0, 1}, {0, past, 1}, {0, most, 1}, {1, 0, 1}, {1, past, 1}, {1, most, 1}, {2, 0, 1}, {2, past, 1}, {2, most, 1}, {3, 0, 1}, {3, past, 1}, {3, most, 1},
+        {4, 5, 5}, {4, 0, 5}, {5, 3, 5}, {5, 0, 5}, {6, 3, 5}, {6, 0, 5}};
+    const uint32_t order[] = {100, 1, 5};
+    const uint32_t fresh[2][14] = {{5, 4, 0, 0, 0, 5, 4, 3, 7, 0, 0, 0, JONQUILSAW_PLANE, 1}, {3, 2, 0, 0, 0, 3, 2, 2, 4, 0, 0, 0, JONQUILSAW_PLANE, 1}};
+    for (uint32_t i = 0; i < 3; i++) {
+        three_works[i] = words_of(8, 5 + i);
+        three_records[i] = words_of(15, 8 + i);
+    }
+    every_two(right, 10, all_wrong, sizeof all_wrong / sizeof *all_wrong, order, call_start_planes, start_planes_kept);
+    EXPECT(call_start_planes(right) == 0);
+    for (uint32_t i = 0; i < 3; i++) {
+        const size_t need = i == 0 ? 6 : 4;
+        EXPECT(memcmp(three_records[i], fresh[i != 0], sizeof *fresh) == 0 && three_records[i][14] == 8 + i);
+        EXPECT(words_all(three_works[i], need, 0) && words_all(three_works[i] + need, 8 - need, 5 + i));
+    }
+    /* exactly the values and the words that are needed */
+    const uint64_t exact[10] = {5, 4, 3, 7, 6, 4, 4, 14, 14, 14};
+    EXPECT(call_start_planes(exact) == 0);
+}
+
+/* Whole 4:2:0 pictures by the header's own functions, against the formulas for each plane. */
+static void three_planes(void) {
+    const jonquilsaw_size sizes_of[][2] = {{{1, 1}, {1, 1}}, {{1, 1}, {4, 1}}, {{2, 2}, {3, 3}}, {{5, 3}, {2, 7}}, {{6, 9}, {6, 9}}, {{41, 23}, {17, 10}}, {{20, 11}, {33, 24}}};
+    for (size_t i = 0; i < sizeof sizes_of / sizeof *sizes_of; i++) {
+        const jonquilsaw_size source = sizes_of[i][0], target = sizes_of[i][1], half = jonquilsaw_size_chroma(source), half_target = jonquilsaw_size_chroma(target);
+        jonquilsaw_planes planes;
+        uint32_t *works[3];
+        for (int k = 0; k < 3; k++) works[k] = words_of(JONQUILSAW_WORK_WORDS_OF(1, k == 0 ? target.width : half_target.width), 9);
+        EXPECT(jonquilsaw_planes_start(&planes, source, target, works[0], JONQUILSAW_WORK_WORDS_OF(1, target.width), works[1], JONQUILSAW_WORK_WORDS_OF(1, half_target.width), works[2], JONQUILSAW_WORK_WORDS_OF(1, half_target.width)) == JONQUILSAW_OK);
+        jonquilsaw_job *const jobs[3] = {&planes.luma, &planes.cb, &planes.cr};
+        for (int k = 0; k < 3; k++) {
+            const jonquilsaw_size from = k == 0 ? source : half, to = k == 0 ? target : half_target;
+            const jonquilsaw_plane_plan plan = {from, 1, jonquilsaw_whole(from), to};
+            const size_t n = (size_t)from.width * from.height, o = (size_t)to.width * to.height, need = JONQUILSAW_WORK_WORDS_OF(1, to.width);
+            uint8_t *bytes = bytes_of(n, 0), *want = bytes_of(o, 0), *out = bytes_of(o, 1);
+            uint32_t *work = words_of(need, 3), accepted;
+            jonquilsaw_job alone;
+            EXPECT(jonquilsaw_job_start_plane(&alone, &plan, work, need) == JONQUILSAW_OK && memcmp(&alone, jobs[k], sizeof alone) == 0);
+            EXPECT(jonquilsaw_job_kind(jobs[k]) == JONQUILSAW_PLANE && jonquilsaw_job_lanes(jobs[k]) == 1 && jonquilsaw_job_row_bytes(jobs[k]) == from.width && jonquilsaw_job_out_bytes(jobs[k]) == to.width);
+            for (size_t b = 0; b < n; b++) bytes[b] = any_byte();
+            by_formula(&plan, bytes, want);
+            while (jonquilsaw_job_taken(jobs[k]) < to.height) {
+                const size_t at = (size_t)from.width * jonquilsaw_job_accepted(jobs[k]);
+                EXPECT(jonquilsaw_job_offer(jobs[k], bytes + at, n - at, works[k], need, &accepted) == JONQUILSAW_OK);
+                for (uint32_t y = jonquilsaw_job_taken(jobs[k]); y < to.height && jonquilsaw_job_take(jobs[k], out + (size_t)to.width * y, to.width, works[k], need) == JONQUILSAW_OK;) y++;
+            }
+            EXPECT(memcmp(out, want, o) == 0);
+            EXPECT(jonquilsaw_job_accepted(jobs[k]) == from.height && jonquilsaw_job_has_alpha(jobs[k]) == 0);
+        }
+    }
+    const jonquilsaw_size odd = {16383, 1}, even = {16384, 2}, largest = {4294967295u, 4294967294u}, none = {0, 0};
+    EXPECT(jonquilsaw_size_chroma(odd).width == 8192 && jonquilsaw_size_chroma(odd).height == 1);
+    EXPECT(jonquilsaw_size_chroma(even).width == 8192 && jonquilsaw_size_chroma(even).height == 1);
+    EXPECT(jonquilsaw_size_chroma(largest).width == 2147483648u && jonquilsaw_size_chroma(largest).height == 2147483647u);
+    EXPECT(jonquilsaw_size_chroma(none).width == 0 && jonquilsaw_size_chroma(none).height == 0);
+}
+
+/* The refusals of offer and take in their order, of a plane of three lanes, 2 by 6 to 1 by 4. */
+static void planes_refused(void) {
+    uint8_t *rows = bytes_of(36, 100), *out = bytes_of(4, 9);
+    uint32_t *work = words_of(7, 3), *record = words_of(15, 4), *count = words_of(1, 8);
+    uint32_t *kept_work = words_of(7, 0), *kept_record = words_of(15, 0);
+    EXPECT(jonquilsaw_start_plane(2, 6, 3, 0, 0, 2, 6, 1, 4, work, 7, record, 15) == 0);
+#define KEEP (memcpy(kept_work, work, 28), memcpy(kept_record, record, 60), count[0] = 8, memset(out, 9, 4))
+#define KEPT (memcmp(work, kept_work, 28) == 0 && memcmp(record, kept_record, 60) == 0 && count[0] == 8 && all(out, 4, 9) && all(rows, 36, 100))
+    KEEP;
+    for (size_t words = 0; words < JONQUILSAW_RECORD_WORDS; words++) {
+        EXPECT(jonquilsaw_offer(record, words, rows, 0, work, 0, count, 0) == JONQUILSAW_BOUNDARY && KEPT);
+        EXPECT(jonquilsaw_offer(record, words, rows, 6, work, 7, count, 1) == JONQUILSAW_INVALID_RECORD && KEPT);
+        EXPECT(jonquilsaw_take(record, words, out, 3, work, 7) == JONQUILSAW_INVALID_RECORD && KEPT);
+    }
+    for (size_t bytes = 0; bytes <= 36; bytes++)
+        if (bytes == 0 || bytes % 6 != 0) EXPECT(jonquilsaw_offer(record, 15, rows, bytes, work, 5, count, 1) == JONQUILSAW_PIXEL_BUFFER_MISMATCH && KEPT);
+    EXPECT(jonquilsaw_offer(record, 15, rows, 6, work, 5, count, 1) == JONQUILSAW_WORK_LENGTH && KEPT);
+    for (size_t bytes = 0; bytes <= 4; bytes++)
+        if (bytes != 3) EXPECT(jonquilsaw_take(record, 15, out, bytes, work, 5) == JONQUILSAW_OUTPUT_LENGTH && KEPT);
+    EXPECT(jonquilsaw_take(record, 15, out, 3, work, 5) == JONQUILSAW_WORK_LENGTH && KEPT);
+    EXPECT(jonquilsaw_take(record, 15, out, 3, work, 6) == JONQUILSAW_NONE_READY && KEPT);
+    /* all six rows lent: the second makes a row ready */
+    EXPECT(jonquilsaw_offer(record, 15, rows, 36, work, 7, count, 1) == 0 && count[0] == 2 && record[9] == 2 && work[6] == 3 && record[14] == 4);
+    KEEP;
+    EXPECT(jonquilsaw_offer(record, 15, rows, 6, work, 5, count, 1) == JONQUILSAW_WORK_LENGTH && KEPT);
+    EXPECT(jonquilsaw_offer(record, 15, rows, 6, work, 7, count, 1) == JONQUILSAW_ROW_READY && KEPT);
+    EXPECT(jonquilsaw_take(record, 15, out, 3, work, 7) == 0 && all(out, 3, 100) && out[3] == 9 && record[10] == 1 && record[11] == 0 && work[6] == 3);
+    while (record[9] < 6 || record[10] < 4) {
+        if (jonquilsaw_take(record, 15, out, 3, work, 7) != 0) EXPECT(jonquilsaw_offer(record, 15, rows, 6, work, 7, count, 1) == 0);
+    }
+    KEEP;
+    EXPECT(jonquilsaw_offer(record, 15, rows, 6, work, 5, count, 1) == JONQUILSAW_WORK_LENGTH && KEPT);
+    EXPECT(jonquilsaw_offer(record, 15, rows, 6, work, 7, count, 1) == JONQUILSAW_ALL_ACCEPTED && KEPT);
+    EXPECT(jonquilsaw_take(record, 15, out, 3, work, 7) == JONQUILSAW_NONE_READY && KEPT);
+#undef KEEP
+#undef KEPT
+}
+
+/* Every combination of kind, lanes, layout and flag, before and after the first row taken: a record or none, by the rules. */
+static void kinds_of_records(void) {
+    const uint32_t words[] = {0, 1, 2, 3, 4, 5, 255, 256, 65536, 2147483648u, 4294967295u};
+    const size_t values = sizeof words / sizeof *words;
+    uint8_t *rows = bytes_of(8, 100), *out = bytes_of(8, 9);
+    uint32_t *work = words_of(16, 3), *record = words_of(14, 0), *count = words_of(1, 8), records = 0;
+    for (uint32_t taken = 0; taken < 2; taken++) {
+        for (size_t i = 0; i < values * values * values * values; i++) {
+            const uint32_t kind = words[i % values], lanes = words[i / values % values], layout = words[i / values / values % values], flag = words[i / values / values / values];
+            const uint32_t given[14] = {1, 2, layout, 0, 0, 1, 2, 1, 2, taken, taken, flag, kind, lanes};
+            const int plane_is = kind == JONQUILSAW_PLANE && lanes >= 1 && lanes <= 4 && layout == JONQUILSAW_RGBA8 && flag == 0;
+            const int picture_is = kind == JONQUILSAW_PICTURE && lanes == 4 && layout <= JONQUILSAW_BGRA8 && flag <= taken;
+            memcpy(record, given, sizeof given);
+            /* a record that is one goes on to the next number of the order */
+            const uint32_t offered = jonquilsaw_offer(record, 14, rows, 0, work, 0, count, 1), took = jonquilsaw_take(record, 14, out, 0, work, 0);
+            EXPECT(plane_is || picture_is ? offered == JONQUILSAW_PIXEL_BUFFER_MISMATCH && took == JONQUILSAW_OUTPUT_LENGTH : offered == JONQUILSAW_INVALID_RECORD && took == JONQUILSAW_INVALID_RECORD);
+            EXPECT(memcmp(record, given, sizeof given) == 0);
+            if (!plane_is && !picture_is) continue;
+            /* and is served, whoever filled it, by its own lanes */
+            EXPECT(jonquilsaw_take(record, 14, out, lanes, work, 2 * lanes) == JONQUILSAW_NONE_READY);
+            EXPECT(jonquilsaw_offer(record, 14, rows, lanes, work, 2 * lanes - 1, count, 1) == JONQUILSAW_WORK_LENGTH);
+            EXPECT(jonquilsaw_offer(record, 14, rows, lanes, work, 2 * lanes, count, 1) == JONQUILSAW_OK && count[0] == 1 && record[9] == taken + 1);
+            EXPECT(record[12] == kind && record[13] == lanes && record[2] == layout && record[11] == flag);
+            count[0] = 8;
+            for (int w = 0; w < 16; w++) work[w] = 3;
+            records++;
+        }
+        EXPECT(all(rows, 8, 100) && all(out, 8, 9) && count[0] == 8);
+    }
+    /* four of planes and three of pictures before the first row, three more with a flag after it */
+    EXPECT(records == 4 + 3 + 4 + 6);
+}
+
+static void planes(void) {
+    starts_of_planes();
+    starts_of_three();
+    planes_refused();
+    kinds_of_records();
+    planes_of_lanes();
+    four_lanes();
+    three_planes();
 }
 
 int main(void) {
@@ -352,6 +763,7 @@ int main(void) {
     packing();
     sizes();
     with_types();
+    planes();
     printf("c: %lu checks, %lu failed\n", checks, failures);
     return failures == 0 ? 0 : 1;
 }

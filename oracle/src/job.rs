@@ -1,11 +1,19 @@
 //! A job is one line of words; README.md has the format.
 use std::fmt;
 
-/// The twelve numbers of a record: source width and height, layout, crop x, y, width and height, target width and height, rows accepted, rows taken, flag.
-pub type Record = [u32; 12];
+/// The numbers of a record: source width and height, layout, crop x, y, width and height, target width and height, rows accepted, rows taken, flag,
+/// kind, lanes.
+pub type Record = [u32; 14];
+pub const LAYOUT: usize = 2;
 pub const K: usize = 9;
 pub const T: usize = 10;
 pub const FLAG: usize = 11;
+pub const KIND: usize = 12;
+pub const LANES: usize = 13;
+
+/// The kinds of a record.
+pub const PICTURE: u32 = 0;
+pub const PLANE: u32 = 1;
 
 #[derive(Clone, Copy, Debug, PartialEq)]
 pub enum Call {
@@ -15,6 +23,8 @@ pub enum Call {
     Take { out: usize, work: usize },
     /// The record's field becomes the value.
     Set { field: usize, value: u32 },
+    /// The calls after it are those of luma, of the first or of the second chroma plane (0 to 2).
+    Plane { which: usize },
 }
 
 #[derive(Clone, Copy, Debug, PartialEq)]
@@ -28,16 +38,41 @@ pub struct Sizes {
     pub ch: u32,
     pub tw: u32,
     pub th: u32,
+    pub kind: u32,
+    pub lanes: u32,
 }
 
 impl Sizes {
+    /// A picture; its sides are for the caller to fill in.
+    pub const PICTURE: Sizes = Sizes { layout: 0, w: 0, h: 0, x: 0, y: 0, cw: 0, ch: 0, tw: 0, th: 0, kind: PICTURE, lanes: 4 };
+
     pub fn record(&self) -> Record {
         let s = self;
-        [s.w, s.h, s.layout, s.x, s.y, s.cw, s.ch, s.tw, s.th, 0, 0, 0]
+        [s.w, s.h, s.layout, s.x, s.y, s.cw, s.ch, s.tw, s.th, 0, 0, 0, s.kind, s.lanes]
     }
     pub fn of(r: &Record) -> Self {
-        Sizes { layout: r[2], w: r[0], h: r[1], x: r[3], y: r[4], cw: r[5], ch: r[6], tw: r[7], th: r[8] }
+        Sizes { layout: r[LAYOUT], w: r[0], h: r[1], x: r[3], y: r[4], cw: r[5], ch: r[6], tw: r[7], th: r[8], kind: r[KIND], lanes: r[LANES] }
     }
+    /// So many pixels, in bytes of a row or in values of a work row.
+    pub fn row(&self, pixels: u32) -> usize {
+        self.lanes as usize * pixels as usize
+    }
+    /// The work values that a job takes.
+    pub fn need(&self) -> usize {
+        self.row(self.tw).saturating_mul(2)
+    }
+    /// The source's bytes that a job's calls may be lent: two rows and some bytes more than it has.
+    pub fn source_bytes(&self) -> usize {
+        self.row(self.w) * (self.h as usize + 2) + 8
+    }
+}
+
+/// The three planes of a picture: luma as given, both chroma planes in half the size, rounded up.
+pub fn planes(w: u32, h: u32, tw: u32, th: u32) -> [Sizes; 3] {
+    let plane = |w, h, tw, th| Sizes { w, h, cw: w, ch: h, tw, th, kind: PLANE, lanes: 1, ..Sizes::PICTURE };
+    let half = |side: u32| side.div_ceil(2);
+    let chroma = plane(half(w), half(h), half(tw), half(th));
+    [plane(w, h, tw, th), chroma, chroma]
 }
 
 /// Which pixels.
@@ -57,6 +92,19 @@ pub enum Job {
     Pack { layout: u32, count: usize, out: usize, px: Pixels },
     Scaled { w: u32, h: u32, tw: u32, th: u32 },
     Rows { sizes: Sizes, work: usize, px: Pixels, calls: Vec<Call> },
+    Three { w: u32, h: u32, tw: u32, th: u32, work: [usize; 3], px: Pixels, calls: Vec<Call> },
+}
+
+fn put_calls(f: &mut fmt::Formatter, calls: &[Call]) -> fmt::Result {
+    for call in calls {
+        match call {
+            Call::Offer { from, len, work } => write!(f, " o {from} {len} {work}")?,
+            Call::Take { out, work } => write!(f, " t {out} {work}")?,
+            Call::Set { field, value } => write!(f, " s {field} {value}")?,
+            Call::Plane { which } => write!(f, " p {which}")?,
+        }
+    }
+    Ok(())
 }
 
 impl fmt::Display for Job {
@@ -74,16 +122,14 @@ impl fmt::Display for Job {
             Job::Pack { layout, count, out, px } => write!(f, "pack {layout} {count} {out} {} {}", px.pattern, px.seed),
             Job::Scaled { w, h, tw, th } => write!(f, "scaled {w} {h} {tw} {th}"),
             Job::Rows { sizes: s, work, px, calls } => {
-                write!(f, "job {} {} {} {} {} {} {} {} {}", s.layout, s.w, s.h, s.x, s.y, s.cw, s.ch, s.tw, s.th)?;
+                let (name, first) = if s.kind == PLANE { ("lanes", s.lanes) } else { ("job", s.layout) };
+                write!(f, "{name} {first} {} {} {} {} {} {} {} {}", s.w, s.h, s.x, s.y, s.cw, s.ch, s.tw, s.th)?;
                 write!(f, " {work} {} {}", px.pattern, px.seed)?;
-                for call in calls {
-                    match call {
-                        Call::Offer { from, len, work } => write!(f, " o {from} {len} {work}")?,
-                        Call::Take { out, work } => write!(f, " t {out} {work}")?,
-                        Call::Set { field, value } => write!(f, " s {field} {value}")?,
-                    }
-                }
-                Ok(())
+                put_calls(f, calls)
+            }
+            Job::Three { w, h, tw, th, work: [y, cb, cr], px, calls } => {
+                write!(f, "three {w} {h} {tw} {th} {y} {cb} {cr} {} {}", px.pattern, px.seed)?;
+                put_calls(f, calls)
             }
         }
     }
@@ -100,6 +146,20 @@ impl Words<'_> {
     }
     fn px(&mut self) -> Option<Pixels> {
         Some(Pixels { pattern: self.num()?, seed: self.num()? })
+    }
+    /// All that are left.
+    fn calls(&mut self) -> Option<Vec<Call>> {
+        let mut calls = Vec::new();
+        while let Some(word) = self.0.next() {
+            calls.push(match word {
+                "o" => Call::Offer { from: self.size()?, len: self.size()?, work: self.size()? },
+                "t" => Call::Take { out: self.size()?, work: self.size()? },
+                "s" => Call::Set { field: self.size()?, value: self.num()? },
+                "p" => Call::Plane { which: self.size()? },
+                _ => return None,
+            });
+        }
+        Some(calls)
     }
 }
 
@@ -137,29 +197,17 @@ impl Job {
             "unpack" => Job::Unpack { layout: v.num()?, bytes: v.size()?, out: v.size()?, px: v.px()? },
             "pack" => Job::Pack { layout: v.num()?, count: v.size()?, out: v.size()?, px: v.px()? },
             "scaled" => Job::Scaled { w: v.num()?, h: v.num()?, tw: v.num()?, th: v.num()? },
-            "job" => {
-                let sizes = Sizes {
-                    layout: v.num()?,
-                    w: v.num()?,
-                    h: v.num()?,
-                    x: v.num()?,
-                    y: v.num()?,
-                    cw: v.num()?,
-                    ch: v.num()?,
-                    tw: v.num()?,
-                    th: v.num()?,
-                };
-                let (work, px) = (v.size()?, v.px()?);
-                let mut calls = Vec::new();
-                while let Some(word) = v.0.next() {
-                    calls.push(match word {
-                        "o" => Call::Offer { from: v.size()?, len: v.size()?, work: v.size()? },
-                        "t" => Call::Take { out: v.size()?, work: v.size()? },
-                        "s" => Call::Set { field: v.size()?, value: v.num()? },
-                        _ => return None,
-                    });
-                }
-                return Some(Job::Rows { sizes, work, px, calls });
+            "job" | "lanes" => {
+                let first = v.num()?;
+                let form =
+                    if kind == "lanes" { Sizes { kind: PLANE, lanes: first, ..Sizes::PICTURE } } else { Sizes { layout: first, ..Sizes::PICTURE } };
+                let sizes =
+                    Sizes { w: v.num()?, h: v.num()?, x: v.num()?, y: v.num()?, cw: v.num()?, ch: v.num()?, tw: v.num()?, th: v.num()?, ..form };
+                return Some(Job::Rows { sizes, work: v.size()?, px: v.px()?, calls: v.calls()? });
+            }
+            "three" => {
+                let (w, h, tw, th) = (v.num()?, v.num()?, v.num()?, v.num()?);
+                return Some(Job::Three { w, h, tw, th, work: [v.size()?, v.size()?, v.size()?], px: v.px()?, calls: v.calls()? });
             }
             _ => return None,
         };
@@ -176,13 +224,19 @@ impl Job {
             Job::Pack { count, .. } => *count as u64,
             Job::Scaled { w, h, tw, th } => side(*w) + side(*h) + side(*tw) + side(*th),
             Job::Rows { sizes: s, calls, .. } => area(s.w, s.h) + area(s.tw, s.th) + calls.len() as u64,
+            Job::Three { w, h, tw, th, calls, .. } => area(*w, *h) + area(*tw, *th) + calls.len() as u64,
         }
     }
 
-    /// Whether a sum may wrap: 255 × span × h is at least 2^32 × g. There libwebp is no judge.
+    /// Whether it is a job of planes: libwebp's rescaler is asked, and not its pictures.
+    pub fn of_planes(&self) -> bool {
+        matches!(self, Job::Rows { sizes: Sizes { kind: PLANE, .. }, .. } | Job::Three { .. })
+    }
+
+    /// Whether a sum may wrap: 255 × span × h is at least 2^32 × g. There libwebp's restore is another.
     pub fn may_wrap(&self) -> bool {
         let (n, h, m, g) = match self {
-            Job::Resize { w, h, tw, th, .. } => (*w, *h, *tw, *th),
+            Job::Resize { w, h, tw, th, .. } | Job::Three { w, h, tw, th, .. } => (*w, *h, *tw, *th),
             Job::Rows { sizes: s, .. } => (s.cw, s.ch, s.tw, s.th),
             _ => return false,
         };

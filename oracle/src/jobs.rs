@@ -1,5 +1,5 @@
 //! Makes jobs: exhaustively for small sides, at random around every boundary. The same seed makes the same jobs.
-use crate::job::{Call, FLAG, Job, K, Pixels, Record, Sizes, T};
+use crate::job::{Call, FLAG, Job, K, KIND, LANES, LAYOUT, PLANE, Pixels, Record, Sizes, T, planes};
 use crate::picture::PATTERNS;
 use crate::table;
 
@@ -32,8 +32,8 @@ impl Random {
     }
 }
 
-/// The sets of jobs, and how many of each a gate's run and a long run have.
-pub const SETS: [(&str, u64, u64); 13] = [
+/// The sets of jobs, and how many of each a gate's run and a long run have; of pictures, then of planes.
+pub const SETS: [(&str, u64, u64); 23] = [
     ("small", 12288, 80 * 12288),
     ("small-rows", 12288, 80 * 12288),
     ("edges", 3000, 60_000),
@@ -47,7 +47,22 @@ pub const SETS: [(&str, u64, u64); 13] = [
     ("beside", 8000, 400_000),
     ("wraps", 16, 300),
     ("strips", 6, 30),
+    ("lanes-small", 4096, 80 * 4096),
+    ("lanes-edges", 800, 8000),
+    ("lanes-crops", 1000, 100_000),
+    ("lanes-calls", 1200, 100_000),
+    ("lanes-records", 500, 50_000),
+    ("lanes-kinds", 4 * FORMS, 80 * FORMS),
+    ("lanes-start", STARTS, 20 * STARTS),
+    ("lanes-three", 800, 60_000),
+    ("lanes-wraps", 10, 100),
+    ("lanes-strips", 8, 40),
 ];
+
+/// The sets of planes.
+pub fn of_planes(set: &str) -> bool {
+    set.starts_with("lanes-")
+}
 
 /// Job number i of a set.
 pub fn make(set: &str, i: u64, r: &mut Random) -> Job {
@@ -61,19 +76,58 @@ pub fn make(set: &str, i: u64, r: &mut Random) -> Job {
             let sizes = calls(r);
             rows(&sizes, 4, r)
         }
-        "records" => records(r),
+        "records" => {
+            let sizes = calls(r);
+            records(&sizes, r)
+        }
         "bad" => bad(r),
         "bad-start" => bad_start(r),
         "alphas" => alphas(i, r),
         "beside" => beside(r),
         "wraps" => wraps(r),
         "strips" => strips(i, r),
+        "lanes-small" => rows(&small_plane(i), 0, r),
+        "lanes-edges" => {
+            let sizes = edges(r, false);
+            rows(&any_plane(sizes, r), 0, r)
+        }
+        "lanes-crops" => {
+            let sizes = crops(r);
+            rows(&any_plane(sizes, r), 0, r)
+        }
+        "lanes-calls" => {
+            let sizes = calls(r);
+            rows(&any_plane(sizes, r), 4, r)
+        }
+        "lanes-records" => {
+            let sizes = calls(r);
+            records(&any_plane(sizes, r), r)
+        }
+        "lanes-kinds" => kinds(i, r),
+        "lanes-start" => plane_start(i, r),
+        "lanes-three" => three(i, r),
+        "lanes-wraps" => {
+            let (sizes, px) = wrapping(r);
+            rows_of(&any_plane(sizes, r), px, 0, r)
+        }
+        "lanes-strips" => {
+            let (sizes, px) = strip(i, r);
+            rows_of(&plane_of(sizes, 1 + (i % 4) as u32), px, 0, r)
+        }
         _ => panic!("no set {set}"),
     }
 }
 
 fn full(layout: u32, w: u32, h: u32, tw: u32, th: u32) -> Sizes {
-    Sizes { layout, w, h, x: 0, y: 0, cw: w, ch: h, tw, th }
+    Sizes { layout, w, h, cw: w, ch: h, tw, th, ..Sizes::PICTURE }
+}
+
+fn plane_of(s: Sizes, lanes: u32) -> Sizes {
+    Sizes { layout: 0, kind: PLANE, lanes, ..s }
+}
+
+fn any_plane(s: Sizes, r: &mut Random) -> Sizes {
+    plane_of(s, r.within(1, 4))
 }
 
 fn whole_with(s: &Sizes, px: Pixels, extra: usize) -> Job {
@@ -85,7 +139,7 @@ fn whole_with(s: &Sizes, px: Pixels, extra: usize) -> Job {
         th: s.th,
         pixels: 4 * s.w as usize * s.h as usize,
         out: 4 * s.tw as usize * s.th as usize,
-        work: 8 * s.tw as usize + extra,
+        work: s.need() + extra,
         px,
     }
 }
@@ -98,6 +152,14 @@ fn whole(s: &Sizes, r: &mut Random) -> Job {
 fn small(i: u64) -> Sizes {
     let digit = |k: u32| (i / 3 >> (3 * k) & 7) as u32 + 1;
     full((i % 3) as u32, digit(0), digit(1), digit(2), digit(3))
+}
+
+/// Every source and target side from 1 to 8; every count of lanes with every pair of widths and every pair of heights, and in four rounds with
+/// every size.
+fn small_plane(i: u64) -> Sizes {
+    let digit = |k: u32| (i >> (3 * k) & 7) as u32 + 1;
+    let (w, h, tw, th) = (digit(0), digit(1), digit(2), digit(3));
+    plane_of(full(0, w, h, tw, th), 1 + (w + h + tw + th + (i / 4096) as u32) % 4)
 }
 
 const SIDES: [u32; 8] = [1, 2, 3, 255, 256, 257, 16383, 16384];
@@ -171,11 +233,18 @@ fn calls(r: &mut Random) -> Sizes {
 /// A job by rows, cut at random; one call in `bad` is a wrong one (none if 0).
 fn rows(s: &Sizes, bad: u32, r: &mut Random) -> Job {
     let px = r.pixels();
-    let work = 8 * s.tw as usize + r.below(4) as usize;
+    rows_of(s, px, bad, r)
+}
+
+fn rows_of(s: &Sizes, px: Pixels, bad: u32, r: &mut Random) -> Job {
+    let work = s.need() + r.below(4) as usize;
+    Job::Rows { sizes: *s, work, px, calls: calls_of(s, work, bad, r) }
+}
+
+fn calls_of(s: &Sizes, work: usize, bad: u32, r: &mut Random) -> Vec<Call> {
     let mut record = s.record();
     let mut list = Vec::new();
-    let row = 4 * s.w as usize;
-    let out = 4 * s.tw as usize;
+    let (row, out) = (s.row(s.w), s.row(s.tw));
     let least = s.h / 100;
     let most = least + r.of(&[1, 2, 3, 5, s.h + 2]);
     let left = |record: &Record| record[K] < s.h || record[T] < s.th;
@@ -189,7 +258,7 @@ fn rows(s: &Sizes, bad: u32, r: &mut Random) -> Job {
         if bad > 0 && (r.one_in(bad) || !left(&record)) {
             wrong_call(s, &record, (from, row, out, work), &mut list, r);
         } else if ready {
-            list.push(Call::Take { out, work: r.of(&[work, 8 * s.tw as usize]) });
+            list.push(Call::Take { out, work: r.of(&[work, s.need()]) });
             record[T] += 1;
         } else {
             let n = r.within(1 + least, most).min(s.h + 2 - record[K]);
@@ -202,37 +271,36 @@ fn rows(s: &Sizes, bad: u32, r: &mut Random) -> Job {
             }
         }
     }
-    Job::Rows { sizes: *s, work, px, calls: list }
+    list
 }
 
 /// A record that the caller filled: rows accepted, rows taken and flag become others that pass the rules, and calls go on.
-fn records(r: &mut Random) -> Job {
-    let sizes = calls(r);
-    let Job::Rows { sizes: s, work, px, calls } = rows(&sizes, 0, r) else { unreachable!() };
+fn records(sizes: &Sizes, r: &mut Random) -> Job {
+    let Job::Rows { sizes: s, work, px, calls } = rows(sizes, 0, r) else { unreachable!() };
     let mut list: Vec<Call> = calls.iter().copied().take(r.below(calls.len() as u32 + 1) as usize).collect();
     let k = r.within(0, s.h);
     let (least, most) = if k == 0 { (0, 0) } else { (table::made(&s, k - 1), table::made(&s, k)) };
     let mut t = r.within(least, most);
-    let flag = u32::from(t > 0 && r.one_in(2));
+    let flag = u32::from(s.kind != PLANE && t > 0 && r.one_in(2));
     for (field, value) in [(K, k), (T, t), (FLAG, flag)] {
         list.push(Call::Set { field, value });
     }
     while t < most {
-        list.push(Call::Take { out: 4 * s.tw as usize, work });
+        list.push(Call::Take { out: s.row(s.tw), work });
         t += 1;
     }
     if k < s.h {
-        let row = 4 * s.w as usize;
+        let row = s.row(s.w);
         list.push(Call::Offer { from: k as usize * row, len: row, work });
-        list.push(Call::Take { out: 4 * s.tw as usize, work });
+        list.push(Call::Take { out: s.row(s.tw), work });
     }
     Job::Rows { sizes: s, work, px, calls: list }
 }
 
 /// A call that some rule may turn away, or two rules at once.
 fn wrong_call(s: &Sizes, record: &Record, (from, row, out, work): (usize, usize, usize, usize), list: &mut Vec<Call>, r: &mut Random) {
-    let short = 8 * s.tw as usize - 1;
-    let lent = r.of(&[work, work, 8 * s.tw as usize, short, 0]);
+    let short = s.need() - 1;
+    let lent = r.of(&[work, work, s.need(), short, 0]);
     let off = |len: usize, r: &mut Random| r.of(&[len, len, 0, len + 1, len - 1, len + 4, 2 * len]);
     let call = |list: &mut Vec<Call>, r: &mut Random| {
         list.push(if r.one_in(2) {
@@ -251,11 +319,15 @@ fn wrong_call(s: &Sizes, record: &Record, (from, row, out, work): (usize, usize,
         return;
     }
     // The record is changed for one call; where the change still passes the rules, number 5 or 3 turns the call away.
-    let field = r.below(12) as usize;
+    let plane = s.kind == PLANE;
+    let field = r.below(if plane { 14 } else { 12 }) as usize;
     let held = record[field];
     let value = match field {
-        2 => held,
+        LAYOUT if plane => r.of(&[1, 2, 3]),
+        LAYOUT => held,
         FLAG => 1 - held,
+        KIND => r.of(&[0, 2, u32::MAX]),
+        LANES => r.of(&[0, 1, 2, 3, 4, 5, u32::MAX]),
         _ => r.of(&[0, held.wrapping_add(1), held.wrapping_sub(1), 16384, 16385, u32::MAX, held]),
     };
     list.push(Call::Set { field, value });
@@ -332,7 +404,7 @@ fn bad_start(r: &mut Random) -> Job {
     let work = r.of(&[need, need, need + 1, need.saturating_sub(1), 0]);
     if table::start(&s, work) == 0 {
         // Large sides may have got through: keep to those that can be run.
-        if cost(&s) > 300_000 || work < 8 * s.tw as usize {
+        if cost(&s) > 300_000 || work < s.need() {
             return bad_start(r);
         }
         return rows(&s, 0, r);
@@ -389,28 +461,31 @@ fn beside(r: &mut Random) -> Job {
 }
 
 /// Sums that wrap: few columns become many, over many rows.
-fn wraps(r: &mut Random) -> Job {
+fn wrapping(r: &mut Random) -> (Sizes, Pixels) {
     let tw = r.of(&[16384, 16384, 16383, 12000, 9000]);
     let th = r.of(&[1, 1, 1, 2, 3]);
     let edge = ((u64::from(th) << 32) / (255 * u64::from(tw - 1))) as u32;
     let h = (edge + r.of(&[0, 1, 2, 3, 50, 400])).min(16384);
     let s = full(r.below(3), r.within(1, 3), h, tw, th);
-    let px = Pixels { pattern: r.of(&[0, 1, 2, 4, 6, 9, 9]), seed: r.next() as u32 };
+    (s, Pixels { pattern: r.of(&[0, 1, 2, 4, 6, 9, 9]), seed: r.next() as u32 })
+}
+
+fn wraps(r: &mut Random) -> Job {
+    let (s, px) = wrapping(r);
     if r.one_in(2) {
         return whole_with(&s, px, 0);
     }
-    let row = 4 * s.w as usize;
-    let (out, work) = (4 * tw as usize, 8 * tw as usize);
+    let (row, out, work) = (s.row(s.w), s.row(s.tw), s.need());
     let mut calls = Vec::new();
     let (mut k, mut t) = (0, 0);
-    while t < th {
+    while t < s.th {
         if table::made(&s, k) > t {
             calls.push(Call::Take { out, work });
             t += 1;
         } else {
-            let n = h - k;
+            let n = s.h - k;
             calls.push(Call::Offer { from: k as usize * row, len: n as usize * row, work });
-            while k < h && table::made(&s, k) <= t {
+            while k < s.h && table::made(&s, k) <= t {
                 k += 1;
             }
         }
@@ -419,7 +494,7 @@ fn wraps(r: &mut Random) -> Job {
 }
 
 /// The widest strips, around the height at which white sums wrap, and taller.
-fn strips(i: u64, r: &mut Random) -> Job {
+fn strip(i: u64, r: &mut Random) -> (Sizes, Pixels) {
     let white = Pixels { pattern: 6, seed: 0 };
     let (h, tw, th, px) = match i {
         0 => (1028, 1, 1, white),
@@ -433,5 +508,129 @@ fn strips(i: u64, r: &mut Random) -> Job {
         _ => (r.within(1020, 1400), r.within(1, 40), r.within(1, 2), r.pixels()),
     };
     let w = if i < 8 { 16384 } else { r.within(12000, 16384) };
-    whole_with(&full((i % 3) as u32, w, h, tw, th), px, 1)
+    (full((i % 3) as u32, w, h, tw, th), px)
+}
+
+fn strips(i: u64, r: &mut Random) -> Job {
+    let (s, px) = strip(i, r);
+    whole_with(&s, px, 1)
+}
+
+// ---- planes
+
+const KINDS: [u32; 4] = [0, 1, 2, u32::MAX];
+const COUNTS: [u32; 7] = [0, 1, 2, 3, 4, 5, u32::MAX];
+/// Kinds, counts of lanes, layouts 0 to 3 and flags 0 to 2.
+const FORMS: u64 = 4 * 7 * 4 * 3;
+
+/// A record, somewhere in a job of a picture or of a plane, gets every combination of kind, count, layout and flag, those that no rule forbids
+/// among them; after an offer and a take it gets its own again.
+fn kinds(i: u64, r: &mut Random) -> Job {
+    let place = |below: u64, count: usize| (i / below) as usize % count;
+    let form = [(KIND, KINDS[place(1, 4)]), (LANES, COUNTS[place(4, 7)]), (LAYOUT, place(28, 4) as u32), (FLAG, place(112, 3) as u32)];
+    let mut s = full(r.below(3), r.within(1, 4), r.within(2, 6), r.within(1, 4), r.within(1, 7));
+    crop_at_edge(&mut s, r);
+    if !r.one_in(4) {
+        s = any_plane(s, r);
+    }
+    let px = r.pixels();
+    let work = 8 * s.tw as usize + r.below(4) as usize;
+    let mut list = calls_of(&s, work, 0, r);
+    list.truncate(r.below(list.len() as u32) as usize);
+    let both = |list: &mut Vec<Call>, s: &Sizes| {
+        list.push(Call::Offer { from: 0, len: s.row(s.w), work });
+        list.push(Call::Take { out: s.row(s.tw), work });
+    };
+    list.extend(form.map(|(field, value)| Call::Set { field, value }));
+    let lanes = if (1..=4).contains(&form[1].1) { form[1].1 } else { s.lanes };
+    both(&mut list, &Sizes { lanes, ..s });
+    list.extend([(KIND, s.kind), (LANES, s.lanes), (LAYOUT, s.layout), (FLAG, 0)].map(|(field, value)| Call::Set { field, value }));
+    both(&mut list, &s);
+    Job::Rows { sizes: s, work, px, calls: list }
+}
+
+/// Causes of 1, 10, 2 and 5, none among each.
+const STARTS: u64 = 15 * 5 * 10 * 3;
+
+/// A start of a plane with every combination of a cause of 1, one of 10, one of 2 and one of 5, in every argument.
+fn plane_start(i: u64, r: &mut Random) -> Job {
+    const MAX: u32 = u32::MAX;
+    let mut s = full(0, r.within(1, 6), r.within(1, 6), r.within(1, 6), r.within(1, 6));
+    crop_at_edge(&mut s, r);
+    s = any_plane(s, r);
+    match i / 15 / 5 % 10 {
+        1 => s.x = s.w - s.cw + 1,
+        2 => s.y = s.h - s.ch + 1,
+        3 => s.x = MAX,
+        4 => s.y = MAX,
+        5 => s.cw = s.w - s.x + 1,
+        6 => s.ch = s.h - s.y + 1,
+        7 => s.cw = MAX,
+        8 => s.ch = MAX,
+        9 => s.cw = 16385,
+        _ => {}
+    }
+    match i % 15 {
+        1 => s.w = 0,
+        2 => s.w = 16385,
+        3 => s.w = MAX,
+        4 => s.h = 0,
+        5 => s.h = 16385,
+        6 => s.h = MAX,
+        7 => s.tw = 0,
+        8 => s.tw = 16385,
+        9 => s.tw = MAX,
+        10 => s.th = 0,
+        11 => s.th = 16385,
+        12 => s.th = MAX,
+        13 => s.cw = 0,
+        14 => s.ch = 0,
+        _ => {}
+    }
+    // 257 is 1 in a byte
+    s.lanes = [s.lanes, 0, 5, 257, MAX][(i / 15 % 5) as usize];
+    let need = 2 * s.lanes.min(4) as usize * s.tw.min(64) as usize;
+    let work = [need + r.below(4) as usize, need.saturating_sub(1), 0][(i / 15 / 5 / 10 % 3) as usize];
+    if table::start(&s, work) == 0 {
+        return Job::Rows { sizes: s, work, px: r.pixels(), calls: calls_of(&s, work, 0, r) };
+    }
+    Job::Rows { sizes: s, work, px: r.pixels(), calls: Vec::new() }
+}
+
+/// Three planes in one call: first every side wrong, with every combination of work slices too short or empty; then sizes that pass, the calls
+/// of the three jobs mixed, some of them wrong.
+fn three(i: u64, r: &mut Random) -> Job {
+    const BAD: [u32; 3] = [0, 16385, u32::MAX];
+    let mut sides = [r.within(1, 9), r.within(1, 9), r.within(1, 9), r.within(1, 9)];
+    let (side, lengths) = (i as usize % 13, i / 13);
+    if i >= 13 * 27 && r.one_in(10) {
+        let s = edges(r, true);
+        sides = [s.w, s.h, s.tw, s.th];
+    } else if i < 13 * 27 && side > 0 {
+        sides[(side - 1) / 3] = BAD[(side - 1) % 3];
+    }
+    let [w, h, tw, th] = sides;
+    let all = planes(w, h, tw, th);
+    let mut work = [0; 3];
+    for (k, lent) in work.iter_mut().enumerate() {
+        let need = 2 * all[k].tw.min(20_000) as usize;
+        let choice = if i < 13 * 27 { lengths / 3u64.pow(k as u32) % 3 } else { 0 };
+        *lent = [need + r.below(4) as usize, need.saturating_sub(1), 0][choice as usize];
+    }
+    let px = r.pixels();
+    let mut calls = Vec::new();
+    if table::three((w, h, tw, th), &work) == 0 {
+        let bad = r.of(&[0, 0, 6]);
+        let mut each = [0, 1, 2].map(|k| calls_of(&all[k], work[k], bad, r).into_iter().peekable());
+        let mut at = 0;
+        while each.iter_mut().any(|list| list.peek().is_some()) {
+            let next = r.below(3) as usize;
+            if next != at {
+                calls.push(Call::Plane { which: next });
+                at = next;
+            }
+            calls.extend(each[at].by_ref().take(r.of(&[1, 3, 50])));
+        }
+    }
+    Job::Three { w, h, tw, th, work, px, calls }
 }

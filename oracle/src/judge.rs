@@ -1,7 +1,8 @@
 //! Sends the same jobs to every side and holds each answer against the original's.
 //!
-//! The original judges everywhere. libwebp must agree where no sum can wrap; elsewhere its differences are counted, and each
-//! must be the one that its 32-bit restore explains.
+//! The original judges everywhere. libwebp's pictures must agree where no sum can wrap; elsewhere its differences are counted,
+//! and each must be the one that its 32-bit restore explains. Its rescaler in plain C is asked for planes, which nobody restores,
+//! and must agree everywhere.
 use crate::job::Job;
 use crate::{jobs, original};
 use std::collections::BTreeMap;
@@ -17,17 +18,33 @@ struct Judged {
     job: Job,
     line: String,
     answer: String,
-    three: String,
+    libwebp: String,
 }
 
 #[derive(Clone, Copy, PartialEq)]
 enum Side {
     Libwebp,
+    Rescaler,
     Ours,
+}
+
+impl Side {
+    fn name(self) -> &'static str {
+        match self {
+            Side::Libwebp => "libwebp",
+            Side::Rescaler => "libwebp's rescaler",
+            Side::Ours => "ours",
+        }
+    }
+    /// Whether it is sent jobs of this kind.
+    fn takes(self, job: &Job) -> bool {
+        self == Side::Ours || (self == Side::Rescaler) == job.of_planes()
+    }
 }
 
 #[derive(Default)]
 struct Count {
+    sent: u64,
     asked: u64,
     left_out: BTreeMap<String, u64>,
     explained: u64,
@@ -37,20 +54,20 @@ struct Count {
 }
 
 impl Count {
-    fn differs(&mut self, j: &Judged, got: &str) {
+    fn differs(&mut self, j: &Judged, want: &str, got: &str) {
         self.differ += 1;
         if self.differ == 1 {
             // The rest, smallest first, at the end: a long run says at once that there is one.
             eprintln!("a difference: {}", cut(&j.line));
         }
-        self.smallest.push((j.job.weight(), j.line.clone(), j.answer.clone(), got.to_owned()));
+        self.smallest.push((j.job.weight(), j.line.clone(), want.to_owned(), got.to_owned()));
         self.smallest.sort_by_key(|s| (s.0, s.1.len()));
         self.smallest.truncate(5);
     }
 }
 
 struct Driver {
-    name: &'static str,
+    side: Side,
     child: Child,
     to_writer: SyncSender<Option<Arc<Judged>>>,
     to_reader: SyncSender<Option<Arc<Judged>>>,
@@ -59,27 +76,28 @@ struct Driver {
 }
 
 fn hold(side: Side, j: &Judged, got: &str, count: &mut Count) {
+    count.sent += 1;
     // libwebp has no counterpart of some calls; the port has one of each
-    if side == Side::Libwebp && got == "-" {
+    if side != Side::Ours && got == "-" {
         *count.left_out.entry(j.line.split(' ').next().unwrap().to_owned()).or_default() += 1;
         return;
     }
     count.asked += 1;
     if side == Side::Ours {
         if got != j.answer {
-            count.differs(j, got);
+            count.differs(j, &j.answer, got);
         }
         return;
     }
     let wrapping = j.job.may_wrap();
     count.wrapping += u64::from(wrapping);
-    if got == j.three {
+    if got == j.libwebp {
         return;
     }
-    if wrapping && original::with_c_restore(&j.job).as_deref() == Some(got) {
+    if side == Side::Libwebp && wrapping && original::with_c_restore(&j.job).as_deref() == Some(got) {
         count.explained += 1;
     } else {
-        count.differs(j, got);
+        count.differs(j, &j.libwebp, got);
     }
 }
 
@@ -92,7 +110,7 @@ fn read_answers(side: Side, input: impl std::io::Read, jobs: Receiver<Option<Arc
         match lines.read_line(&mut got) {
             Ok(n) if n > 0 => hold(side, &j, got.trim_end_matches('\n'), &mut count),
             _ => {
-                count.differs(&j, "(no answer: the driver ended)");
+                count.differs(&j, &j.answer, "(no answer: the driver ended)");
                 while let Ok(Some(_)) = jobs.recv() {}
                 return count;
             }
@@ -107,7 +125,7 @@ fn read_answers(side: Side, input: impl std::io::Read, jobs: Receiver<Option<Arc
 }
 
 impl Driver {
-    fn start(name: &'static str, side: Side, command: &str) -> Driver {
+    fn start(side: Side, command: &str) -> Driver {
         let mut child = Command::new("sh")
             .args(["-c", &format!("exec {command}")])
             .stdin(Stdio::piped())
@@ -130,10 +148,10 @@ impl Driver {
             while let Ok(Some(_)) = work.recv() {}
         });
         let reader = std::thread::spawn(move || read_answers(side, output, due));
-        Driver { name, child, to_writer, to_reader, writer, reader }
+        Driver { side, child, to_writer, to_reader, writer, reader }
     }
 
-    fn finish(mut self) -> (&'static str, Count) {
+    fn finish(mut self) -> (Side, Count) {
         let _ = self.to_writer.send(None);
         drop(self.to_writer);
         let _ = self.to_reader.send(None);
@@ -144,7 +162,7 @@ impl Driver {
             count.differ += 1;
             count.smallest.push((0, format!("(the driver ended with {status})"), String::new(), String::new()));
         }
-        (self.name, count)
+        (self.side, count)
     }
 }
 
@@ -152,42 +170,52 @@ fn cut(s: &str) -> String {
     if s.len() > 300 { format!("{} .. ({} bytes)", &s[..300], s.len()) } else { s.to_owned() }
 }
 
+/// The commands that answer jobs, where they are at hand.
+#[derive(Default)]
+pub struct Commands<'a> {
+    pub libwebp: Option<&'a str>,
+    pub rescaler: Option<&'a str>,
+    pub ours: Option<&'a str>,
+}
+
 /// Runs `sets` (name and count); true where all agree.
-pub fn run(sets: &[(&str, u64)], seed: u64, libwebp: Option<&str>, ours: Option<&str>) -> bool {
-    let mut drivers = Vec::new();
-    drivers.extend(libwebp.map(|c| Driver::start("libwebp", Side::Libwebp, c)));
-    drivers.extend(ours.map(|c| Driver::start("ours", Side::Ours, c)));
+pub fn run(sets: &[(&str, u64)], seed: u64, commands: Commands) -> bool {
+    let sides = [(Side::Libwebp, commands.libwebp), (Side::Rescaler, commands.rescaler), (Side::Ours, commands.ours)];
+    let drivers: Vec<_> = sides.iter().filter_map(|&(side, command)| Some(Driver::start(side, command?))).collect();
     let (mut total, mut own) = (0, 0);
     let begun = Instant::now();
     for &(set, count) in sets {
         let since = Instant::now();
         let mut random = jobs::Random(seed);
         random.0 = random.next() ^ set.bytes().fold(0, |h: u64, b| h.wrapping_mul(31).wrapping_add(u64::from(b)));
-        let mut numbers = [0u64; 10];
+        let mut numbers = [0u64; NUMBERS];
         for i in 0..count {
             let job = jobs::make(set, i, &mut random);
-            let (line, (answer, three)) = (job.to_string(), original::answer(&job));
+            let (line, (answer, libwebp)) = (job.to_string(), original::answer(&job));
             if answer.starts_with('!') {
                 own += 1;
                 println!("original: {}\n  {answer}", cut(&line));
             } else {
                 tally(&job, &answer, &mut numbers);
             }
-            let judged = Arc::new(Judged { job, line, answer, three });
-            for d in &drivers {
+            let judged = Arc::new(Judged { job, line, answer, libwebp });
+            for d in drivers.iter().filter(|d| d.side.takes(&judged.job)) {
                 let _ = d.to_writer.send(Some(judged.clone()));
                 let _ = d.to_reader.send(Some(judged.clone()));
             }
         }
         total += count;
-        println!("{set:>11} {count:>8} jobs {:>6.1} s  calls by number 0 to 9: {numbers:?}", since.elapsed().as_secs_f64());
+        println!("{set:>13} {count:>8} jobs {:>6.1} s  calls by number 0 to {}: {numbers:?}", since.elapsed().as_secs_f64(), NUMBERS - 1);
     }
     let mut agree = own == 0;
-    for (name, c) in drivers.into_iter().map(Driver::finish) {
-        agree &= c.differ == 0 && c.asked > 0;
-        println!("{name}: {} of {total} jobs asked, {} differ", c.asked, c.differ);
-        if name == "libwebp" {
-            println!("{name}: of {} jobs whose sums may wrap, {} differ as the 32-bit restore explains", c.wrapping, c.explained);
+    for (side, c) in drivers.into_iter().map(Driver::finish) {
+        let name = side.name();
+        agree &= c.differ == 0 && (c.asked > 0 || c.sent == 0);
+        println!("{name}: {} of {} jobs asked, {} differ", c.asked, c.sent, c.differ);
+        match side {
+            Side::Libwebp => println!("{name}: of {} jobs whose sums may wrap, {} differ as the 32-bit restore explains", c.wrapping, c.explained),
+            Side::Rescaler => println!("{name}: the sums of {} jobs may wrap", c.wrapping),
+            Side::Ours => {}
         }
         if !c.left_out.is_empty() {
             println!("{name}: not asked: {}", c.left_out.iter().map(|(kind, n)| format!("{kind} {n}")).collect::<Vec<_>>().join(", "));
@@ -204,13 +232,19 @@ pub fn run(sets: &[(&str, u64)], seed: u64, libwebp: Option<&str>, ours: Option<
     agree
 }
 
+/// The numbers that calls are counted by: 0 to 10.
+const NUMBERS: usize = 11;
+
 /// Counts the number of each call that an answer holds.
-fn tally(job: &Job, answer: &str, numbers: &mut [u64; 10]) {
+fn tally(job: &Job, answer: &str, numbers: &mut [u64; NUMBERS]) {
     let words: Vec<&str> = answer.split(' ').collect();
     let mut add = |w: &str| numbers[w.parse::<usize>().unwrap()] += 1;
     add(words[0]);
-    if let Job::Rows { .. } = job {
-        // After the start's two words, four for each call, and one at the end.
-        words[2..words.len() - 1].chunks(4).for_each(|call| add(call[0]));
-    }
+    // After the start's words, four for each call, and one at the end.
+    let start = match job {
+        Job::Rows { .. } => 2,
+        Job::Three { .. } if words[0] == "0" => 7,
+        _ => return,
+    };
+    words[start..words.len() - 1].chunks(4).for_each(|call| add(call[0]));
 }

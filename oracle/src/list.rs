@@ -59,7 +59,7 @@ impl List {
         writeln!(self.text, " {pattern} {} {number} {flag} {check}", self.seeds).unwrap();
     }
     fn scale(&mut self, layout: u32, (w, h): (u32, u32), (tw, th): (u32, u32), pattern: u32) {
-        self.add(0, Sizes { layout, w, h, x: 0, y: 0, cw: w, ch: h, tw, th }, pattern);
+        self.add(0, Sizes { layout, w, h, cw: w, ch: h, tw, th, ..Sizes::PICTURE }, pattern);
     }
 }
 
@@ -78,7 +78,7 @@ pub fn make() -> String {
         let (cw, ch) = (r.within(1, w), r.within(1, h));
         let inside = (r.within(0, w - cw), r.within(0, h - ch));
         let (x, y) = (r.of(&[0, w - cw, inside.0]), r.of(&[0, h - ch, inside.1]));
-        let s = Sizes { layout: i % 3, w, h, x, y, cw, ch, tw: r.within(1, 64), th: r.within(1, 64) };
+        let s = Sizes { layout: i % 3, w, h, x, y, cw, ch, tw: r.within(1, 64), th: r.within(1, 64), ..Sizes::PICTURE };
         l.add(0, s, r.below(PATTERNS));
         l.add(2, Sizes { tw: 0, th: 0, ..s }, r.below(PATTERNS));
     }
@@ -130,7 +130,7 @@ pub fn make() -> String {
         l.scale(from.0 % 3, from, to, pattern);
     }
     // Refusals 1 and 2.
-    let good = Sizes { layout: 0, w: 5, h: 4, x: 1, y: 1, cw: 3, ch: 2, tw: 2, th: 3 };
+    let good = Sizes { w: 5, h: 4, x: 1, y: 1, cw: 3, ch: 2, tw: 2, th: 3, ..Sizes::PICTURE };
     let max = u32::MAX;
     for s in [
         Sizes { w: 0, ..good },
@@ -177,11 +177,11 @@ pub fn make() -> String {
         (0, 7, 1, 1),
         (7, 16385, 1, 1),
     ] {
-        l.add(1, Sizes { layout: 0, w, h, x: 0, y: 0, cw: 0, ch: 0, tw, th }, 0);
+        l.add(1, Sizes { w, h, tw, th, ..Sizes::PICTURE }, 0);
     }
     // Alpha planes.
     for i in 0..12 {
-        l.add(3, Sizes { layout: i % 3, w: r.within(1, 20), h: r.within(1, 20), x: 0, y: 0, cw: 0, ch: 0, tw: 0, th: 0 }, i % PATTERNS);
+        l.add(3, Sizes { layout: i % 3, w: r.within(1, 20), h: r.within(1, 20), ..Sizes::PICTURE }, i % PATTERNS);
     }
     format!("{}\n{}", l.entries, l.text)
 }

@@ -2,7 +2,7 @@
 //!
 //!   oracle original < jobs > answers      a line for each job
 //!   oracle jobs SET COUNT SEED            jobs on standard output
-//!   oracle judge gate|long|SET.. [--count N] [--seed N] [--libwebp COMMAND] [--ours COMMAND]
+//!   oracle judge gate|long|planes [long]|SET.. [--count N] [--seed N] [--libwebp COMMAND] [--rescaler COMMAND] [--ours COMMAND]
 //!   oracle list                           the fixed list
 mod error;
 mod job;
@@ -37,7 +37,7 @@ fn answer_all(altered: Option<u64>) {
 }
 
 fn judge(words: &[String]) -> bool {
-    let (mut seed, mut count, mut libwebp, mut ours) = (1, None, None, None);
+    let (mut seed, mut count, mut commands) = (1, None, judge::Commands::default());
     let mut sets = Vec::new();
     let mut words = words.iter();
     while let Some(word) = words.next() {
@@ -45,16 +45,19 @@ fn judge(words: &[String]) -> bool {
         match word.as_str() {
             "--seed" => seed = value().parse().expect("a seed"),
             "--count" => count = Some(value().parse::<u64>().expect("a number")),
-            "--libwebp" => libwebp = Some(value().as_str()),
-            "--ours" => ours = Some(value().as_str()),
+            "--libwebp" => commands.libwebp = Some(value().as_str()),
+            "--rescaler" => commands.rescaler = Some(value().as_str()),
+            "--ours" => commands.ours = Some(value().as_str()),
             set => sets.push(set),
         }
     }
-    let wanted = |name: &str| ["gate", "long", name].iter().any(|w| sets.contains(w));
+    let planes = sets.contains(&"planes");
+    let all = sets.contains(&"gate") || sets.contains(&"long") && !planes;
+    let wanted = |name: &str| all || sets.contains(&name) || planes && jobs::of_planes(name);
     let long = sets.contains(&"long");
     let chosen: Vec<_> = jobs::SETS.iter().filter(|s| wanted(s.0)).map(|&(name, g, l)| (name, count.unwrap_or(if long { l } else { g }))).collect();
     assert!(!chosen.is_empty(), "no such set");
-    judge::run(&chosen, seed, libwebp, ours)
+    judge::run(&chosen, seed, commands)
 }
 
 fn main() {

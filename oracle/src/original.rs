@@ -1,14 +1,15 @@
 //! The original's answers, as lines (README.md has the format).
 //!
 //! Whole pictures are asked of the public functions. A job by rows is run by the original's own Rescaler, its state set
-//! from the record and the work values before each row, and each row taken is held against the public crop and resize.
+//! from the record and the work values before each row, and each row taken is held against the public crop and resize; of a
+//! plane, which the original has no public function for, against its private rescale_plane.
 //! Numbers come from table.rs and are held against the original wherever it can be asked; a line that begins with `!`
 //! says that the original disagrees with itself or with the table, and the comparison fails.
 use crate::geometry::Rect;
 use crate::image::{Dimensions, Image, PixelLayout, argb_has_alpha, pack_pixels, unpack_pixels};
-use crate::job::{Call, FLAG, Job, K, Pixels, Record, Sizes, T};
+use crate::job::{Call, FLAG, Job, K, PLANE, Pixels, Record, Sizes, T, planes};
 use crate::picture::{bytes, fill_bytes, fill_words, fnv_words, hex, plane};
-use crate::probe::open::{Scaler, alpha_scale, mult_argb};
+use crate::probe::open::{Scaler, alpha_scale, mult_argb, rescale_plane};
 use crate::{error, table};
 use std::fmt::Write;
 
@@ -47,9 +48,18 @@ pub fn cropped(s: &Sizes, pixels: Vec<u8>, target: bool) -> Result<Image, u32> {
     Ok(if let Some(to) = to { part.resize(to) } else { part })
 }
 
-/// The matted lanes B, G, R, A of packed pixels.
-fn lanes(layout_: u32, packed: &[u8]) -> Vec<u8> {
-    unpack_pixels(layout(layout_), packed).iter().flat_map(|&p| mult_argb(p, false).to_le_bytes()).collect()
+/// The matted lanes B, G, R, A of packed pixels; a plane's lanes are its bytes.
+fn lanes(s: &Sizes, packed: &[u8]) -> Vec<u8> {
+    if s.kind == PLANE {
+        return packed.to_vec();
+    }
+    unpack_pixels(layout(s.layout), packed).iter().flat_map(|&p| mult_argb(p, false).to_le_bytes()).collect()
+}
+
+/// The crop of a source, whose sizes pass.
+fn window(s: &Sizes, source: &[u8]) -> Vec<u8> {
+    let row = |y: u32| y as usize * s.row(s.w) + s.row(s.x);
+    (s.y..s.y + s.ch).flat_map(|y| &source[row(y)..row(y) + s.row(s.cw)]).copied().collect()
 }
 
 /// A row of lanes, restored and packed.
@@ -75,10 +85,10 @@ fn c_restore(p: u32) -> u32 {
 
 /// The Rescaler over a whole crop: its output lanes, and the two halves of the work values at the end.
 fn scaled_lanes(s: &Sizes, part: &[u8]) -> (Vec<u8>, Vec<u32>) {
-    let mut scaler = Scaler::new(s.cw, s.ch, s.tw, s.th, s.th);
+    let mut scaler = Scaler::new(s.cw, s.ch, s.tw, s.th, s.lanes, s.th);
     scaler.set_phase(0, 0);
     let mut t = 0;
-    for row in lanes(s.layout, part).chunks(4 * s.cw as usize) {
+    for row in lanes(s, part).chunks(s.row(s.cw)) {
         scaler.import_one(row);
         while scaler.pending() {
             scaler.export_at(t);
@@ -113,38 +123,49 @@ pub fn with_c_restore(job: &Job) -> Option<String> {
 /// The picture, crop and target of a job that scales, where its sizes pass.
 fn picture_of(job: &Job) -> Option<(Sizes, Pixels)> {
     let (s, px) = match job {
-        Job::Resize { layout, w, h, tw, th, px, .. } => (Sizes { layout: *layout, w: *w, h: *h, x: 0, y: 0, cw: *w, ch: *h, tw: *tw, th: *th }, *px),
+        Job::Resize { layout, w, h, tw, th, px, .. } => {
+            (Sizes { layout: *layout, w: *w, h: *h, cw: *w, ch: *h, tw: *tw, th: *th, ..Sizes::PICTURE }, *px)
+        }
         Job::Rows { sizes, px, .. } => (*sizes, *px),
         _ => return None,
     };
     (table::sizes(&s, true) == 0).then_some((s, px))
 }
 
-/// The answer's line, and what libwebp's three words must be: those of the line, or for a job by rows the whole picture's.
+/// The answer's line, and what libwebp's must be: the line's first three words, or for a job by rows what the whole picture or plane gives.
 pub fn answer(job: &Job) -> (String, String) {
-    if let Job::Rows { sizes, work, px, calls } = job {
-        let rows = Rows::new(sizes, *work, px);
-        let mut whole = String::new();
-        if let Some(image) = &rows.public {
-            whole = format!("0 {} ", u8::from(image.has_alpha()));
-            hex(&mut whole, image.as_bytes());
+    match job {
+        Job::Rows { sizes, work, px, calls } => {
+            let rows = Rows::new(sizes, *work, px, table::start(sizes, *work));
+            let whole = rows.whole.clone();
+            (rows.run(calls).unwrap_or_else(|e| e), whole)
         }
-        return (rows.run(calls), whole);
+        Job::Three { w, h, tw, th, work, px, calls } => {
+            let number = table::three((*w, *h, *tw, *th), work);
+            // each plane has bytes of its own
+            let seed = |i: u32| Pixels { seed: px.seed.wrapping_add(i), ..*px };
+            let mut rows = (0..3).map(|i| Rows::new(&planes(*w, *h, *tw, *th)[i], work[i], &seed(i as u32), number));
+            let three = Three { rows: [rows.next().unwrap(), rows.next().unwrap(), rows.next().unwrap()] };
+            let whole = three.rows.iter().map(|r| r.whole.as_str()).collect::<Vec<_>>().join(" ");
+            (three.run(calls).unwrap_or_else(|e| e), whole)
+        }
+        _ => {
+            let line = whole_answer(job);
+            let end = line.match_indices(' ').nth(2).map_or(line.len(), |m| m.0);
+            let three = line[..end].to_owned();
+            (line, three)
+        }
     }
-    let line = whole_answer(job);
-    let end = line.match_indices(' ').nth(2).map_or(line.len(), |m| m.0);
-    let three = line[..end].to_owned();
-    (line, three)
 }
 
 fn whole_answer(job: &Job) -> String {
     match job {
         Job::Resize { layout, w, h, tw, th, pixels, out, work, px } => {
-            let s = Sizes { layout: *layout, w: *w, h: *h, x: 0, y: 0, cw: *w, ch: *h, tw: *tw, th: *th };
+            let s = Sizes { layout: *layout, w: *w, h: *h, cw: *w, ch: *h, tw: *tw, th: *th, ..Sizes::PICTURE };
             resize(&s, *pixels, *out, *work, px)
         }
         Job::Crop { layout, w, h, x, y, cw, ch, pixels, out, px } => {
-            let s = Sizes { layout: *layout, w: *w, h: *h, x: *x, y: *y, cw: *cw, ch: *ch, tw: 0, th: 0 };
+            let s = Sizes { layout: *layout, w: *w, h: *h, x: *x, y: *y, cw: *cw, ch: *ch, ..Sizes::PICTURE };
             crop(&s, *pixels, *out, px)
         }
         Job::Plane { layout, w, h, pixels, plane, px } => apply_plane(*layout, (*w, *h), *pixels, *plane, px),
@@ -175,7 +196,7 @@ fn whole_answer(job: &Job) -> String {
             Ok(d) => format!("0 {} {}", d.width(), d.height()),
             Err(e) => format!("{} 0 0", e as u32),
         },
-        Job::Rows { .. } => unreachable!(),
+        Job::Rows { .. } | Job::Three { .. } => unreachable!(),
     }
 }
 
@@ -251,89 +272,121 @@ fn apply_plane(l: u32, (w, h): (u32, u32), pixels: usize, len: usize, px: &Pixel
     Whole { number, flag, out, work: None }.line()
 }
 
+/// What a call answers, or a line that begins with `!`.
+type Answer = Result<String, String>;
+
 /// A job by rows.
 struct Rows {
     record: Record,
     work: Vec<u32>,
     started: u32,
-    /// The picture, with two rows and some bytes more than the source has.
+    /// The picture or the plane, with two rows and some bytes more than the source has.
     source: Vec<u8>,
-    /// The original's crop and resize of it, and the record as the picture's own rows made it, if they alone did.
-    public: Option<Image>,
+    /// The original's crop and resize of it, and the record as the source's own rows made it, if they alone did.
+    public: Vec<u8>,
     natural: Option<Record>,
     scaler: Option<(Sizes, Scaler)>,
-    line: String,
+    /// What libwebp's answer must be.
+    whole: String,
+    /// Where the original disagrees with itself or with the table.
+    wrong: Option<String>,
 }
 
 impl Rows {
-    fn new(s: &Sizes, work: usize, px: &Pixels) -> Self {
-        let started = table::start(s, work);
+    fn new(s: &Sizes, work: usize, px: &Pixels, started: u32) -> Self {
         let mut rows = Rows {
             record: s.record(),
             work: fill_words(work),
             started,
             source: Vec::new(),
-            public: None,
+            public: Vec::new(),
             natural: Some(s.record()),
             scaler: None,
-            line: String::new(),
+            whole: String::new(),
+            wrong: None,
         };
-        if table::sizes(s, true) == 0 {
-            let picture = 4 * s.w as usize * s.h as usize;
-            rows.source = bytes(s.layout, px.pattern, px.seed, picture + 8 * s.w as usize + 8);
-            match cropped(s, rows.source[..picture].to_vec(), true) {
-                Ok(image) => rows.public = Some(image),
-                Err(n) => rows.line = format!("! the table says 0, the original {n}"),
-            }
-        } else if let Some(n) = sizes_asked(s)
-            && n != started
-        {
-            rows.line = format!("! the table says {started}, the original {n}");
+        let sizes = table::sizes(s, true);
+        if sizes != 0 {
+            rows.wrong = sizes_asked(s).filter(|&n| n != sizes).map(|n| format!("! the table says {sizes}, the original {n}"));
+        } else if s.kind != PLANE || started == 0 {
+            rows.source = bytes(s.layout, px.pattern, px.seed, s.source_bytes());
+            rows.ask(s);
         }
         rows
     }
 
-    fn run(mut self, calls: &[Call]) -> String {
-        if !self.line.is_empty() {
-            return self.line;
-        }
-        if self.started != 0 {
-            return format!("{} {:016x} 1", self.started, fnv_words(&self.work));
-        }
-        let clear = 8 * self.record[7] as usize;
-        self.work[..clear].fill(0);
-        self.line = format!("0 {:016x}", fnv_words(&self.work));
-        for call in calls {
-            match *call {
-                Call::Set { field, value } => {
-                    self.record[field] = value;
-                    continue;
-                }
-                Call::Offer { from, len, work } => self.offer(from, len, work),
-                Call::Take { out, work } => self.take(out, work),
+    /// The whole picture or plane of the original.
+    fn ask(&mut self, s: &Sizes) {
+        let source = &self.source[..s.row(s.w) * s.h as usize];
+        if s.kind == PLANE {
+            let part = window(s, source);
+            let (dst, halves) = scaled_lanes(s, &part);
+            self.public = rescale_plane(&part, s.cw, s.ch, s.tw, s.th, s.lanes);
+            if dst != self.public {
+                self.wrong = Some("! the original's Rescaler, a row at a time, and its rescale_plane differ".into());
             }
-            if self.line.starts_with('!') {
-                return self.line;
-            }
-            let record: Vec<String> = self.record.iter().map(u32::to_string).collect();
-            write!(self.line, " {} {:016x}", record.join(","), fnv_words(&self.work)).unwrap();
+            self.whole = "0 ".into();
+            hex(&mut self.whole, &self.public);
+            write!(self.whole, " {:016x}", fnv_words(&halves)).unwrap();
+            return;
         }
-        self.line.push_str(" 1");
-        self.line
+        match cropped(s, source.to_vec(), true) {
+            Ok(image) => {
+                self.whole = format!("0 {} ", u8::from(image.has_alpha()));
+                hex(&mut self.whole, image.as_bytes());
+                self.public = image.into_pixels();
+            }
+            Err(n) => self.wrong = Some(format!("! the table says 0, the original {n}")),
+        }
+    }
+
+    /// The work values, as start leaves them.
+    fn start(&mut self) -> Answer {
+        if let Some(wrong) = self.wrong.take() {
+            return Err(wrong);
+        }
+        if self.started == 0 {
+            let clear = Sizes::of(&self.record).need();
+            self.work[..clear].fill(0);
+        }
+        Ok(format!("{:016x}", fnv_words(&self.work)))
+    }
+
+    fn call(&mut self, call: Call) -> Answer {
+        let said = match call {
+            Call::Set { field, value } => {
+                self.record[field] = value;
+                return Ok(String::new());
+            }
+            Call::Offer { from, len, work } => self.offer(from, len, work)?,
+            Call::Take { out, work } => self.take(out, work)?,
+            Call::Plane { .. } => return Err("! no call of one job".into()),
+        };
+        Ok(format!(" {said} {} {:016x}", record_line(&self.record), fnv_words(&self.work)))
+    }
+
+    fn run(mut self, calls: &[Call]) -> Answer {
+        let work = self.start()?;
+        let mut line = format!("{} {work}", self.started);
+        if self.started == 0 {
+            for &call in calls {
+                line += &self.call(call)?;
+            }
+        }
+        Ok(line + " 1")
     }
 
     /// The Rescaler in the state that the record and the work values say.
     fn loaded(&mut self) -> &mut Scaler {
         let s = Sizes::of(&self.record);
         if self.scaler.as_ref().is_none_or(|c| c.0 != s) {
-            self.scaler = Some((s, Scaler::new(s.cw, s.ch, s.tw, s.th, 1)));
+            self.scaler = Some((s, Scaler::new(s.cw, s.ch, s.tw, s.th, s.lanes, 1)));
         }
         let (u, t) = (table::used(&s, self.record[K]), self.record[T]);
         let scaler = &mut self.scaler.as_mut().unwrap().1;
         scaler.set_phase(u, t);
-        let half = 4 * s.tw as usize;
         let (irow, frow) = scaler.rows();
-        let (first, second) = self.work[..2 * half].split_at(half);
+        let (first, second) = self.work[..s.need()].split_at(s.row(s.tw));
         let swap = newer_is_first(&s, u);
         irow.copy_from_slice(if swap { second } else { first });
         frow.copy_from_slice(if swap { first } else { second });
@@ -342,32 +395,30 @@ impl Rows {
 
     fn store(&mut self) {
         let s = Sizes::of(&self.record);
-        let half = 4 * s.tw as usize;
         let swap = newer_is_first(&s, table::used(&s, self.record[K]));
         let (irow, frow) = self.scaler.as_mut().unwrap().1.rows();
-        let (first, second) = self.work[..2 * half].split_at_mut(half);
+        let (first, second) = self.work[..s.need()].split_at_mut(s.row(s.tw));
         first.copy_from_slice(if swap { frow } else { irow });
         second.copy_from_slice(if swap { irow } else { frow });
     }
 
-    fn offer(&mut self, from: usize, len: usize, work: usize) {
+    fn offer(&mut self, from: usize, len: usize, work: usize) -> Answer {
         let number = table::offer(&self.record, len, work);
         let mut count = 0;
         if number == 0 {
             let s = Sizes::of(&self.record);
-            let row = 4 * s.w as usize;
+            let row = s.row(s.w);
             let natural = self.natural == Some(self.record) && from == self.record[K] as usize * row;
             for i in 0..len / row {
                 let c = self.record[K];
                 count += 1;
                 let mut pending = false;
                 if c >= s.y && c - s.y < s.ch {
-                    let at = from + i * row + 4 * s.x as usize;
-                    let part = lanes(s.layout, &self.source[at..at + 4 * s.cw as usize]);
+                    let at = from + i * row + s.row(s.x);
+                    let part = lanes(&s, &self.source[at..at + s.row(s.cw)]);
                     let scaler = self.loaded();
                     if !scaler.import_one(&part) {
-                        self.line = "! the original has a row ready where the table has none".into();
-                        return;
+                        return Err("! the original has a row ready where the table has none".into());
                     }
                     pending = scaler.pending();
                     self.record[K] += 1;
@@ -376,8 +427,7 @@ impl Rows {
                     self.record[K] += 1;
                 }
                 if pending != (table::made(&s, self.record[K]) > self.record[T]) {
-                    self.line = "! the original's schedule and the table's differ".into();
-                    return;
+                    return Err("! the original's schedule and the table's differ".into());
                 }
                 if pending || self.record[K] == s.h {
                     break;
@@ -385,10 +435,10 @@ impl Rows {
             }
             self.natural = natural.then_some(self.record);
         }
-        write!(self.line, " {number} {count}").unwrap();
+        Ok(format!("{number} {count}"))
     }
 
-    fn take(&mut self, out: usize, work: usize) {
+    fn take(&mut self, out: usize, work: usize) -> Answer {
         let number = table::take(&self.record, out, work);
         let mut row = fill_bytes(out);
         if number == 0 {
@@ -398,23 +448,56 @@ impl Rows {
             let scaler = self.loaded();
             scaler.export_at(0);
             if scaler.dst() != stated && (natural || !beyond) {
-                self.line = "! the original's export and SCOPE's formula differ".into();
-                return;
+                return Err("! the original's export and SCOPE's formula differ".into());
             }
-            row = restored(s.layout, &stated, rust_restore);
+            row = if s.kind == PLANE { stated } else { restored(s.layout, &stated, rust_restore) };
             self.store();
             let t = self.record[T] as usize;
             self.record[T] += 1;
-            let flag = unpack_pixels(layout(s.layout), &row).iter().any(|p| p >> 24 != 255);
-            self.record[FLAG] |= u32::from(flag);
+            if s.kind != PLANE {
+                let flag = unpack_pixels(layout(s.layout), &row).iter().any(|p| p >> 24 != 255);
+                self.record[FLAG] |= u32::from(flag);
+            }
             self.natural = natural.then_some(self.record);
-            if natural && self.public.as_ref().unwrap().as_bytes()[t * row.len()..(t + 1) * row.len()] != row {
-                self.line = "! the original's Rescaler and its resize differ".into();
-                return;
+            if natural && self.public[t * row.len()..(t + 1) * row.len()] != row {
+                return Err("! the original's Rescaler and its resize differ".into());
             }
         }
-        write!(self.line, " {number} ").unwrap();
-        hex(&mut self.line, &row);
+        let mut said = format!("{number} ");
+        hex(&mut said, &row);
+        Ok(said)
+    }
+}
+
+fn record_line(record: &Record) -> String {
+    record.iter().map(u32::to_string).collect::<Vec<_>>().join(",")
+}
+
+/// The jobs of three planes, started together: each is a job of its own.
+struct Three {
+    rows: [Rows; 3],
+}
+
+impl Three {
+    fn run(mut self, calls: &[Call]) -> Answer {
+        let number = self.rows[0].started;
+        let mut line = number.to_string();
+        for rows in &mut self.rows {
+            line = line + " " + &rows.start()?;
+        }
+        if number == 0 {
+            for rows in &self.rows {
+                line = line + " " + &record_line(&rows.record);
+            }
+            let mut at = 0;
+            for &call in calls {
+                match call {
+                    Call::Plane { which } => at = which,
+                    _ => line += &self.rows[at].call(call)?,
+                }
+            }
+        }
+        Ok(line + " 1")
     }
 }
 

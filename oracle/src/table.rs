@@ -1,7 +1,7 @@
 //! SCOPE's "Why a call is turned away" and "The job": which number a call gets, and how many rows are ready.
 //! The original cannot express most of these calls (its pictures always have whole buffers, and it has no record),
 //! so this table judges them; where it can, original.rs holds the table against it.
-use crate::job::{FLAG, K, Record, Sizes, T};
+use crate::job::{FLAG, K, LAYOUT, PICTURE, PLANE, Record, Sizes, T, planes};
 
 pub const MAX_SIDE: u32 = 16384;
 
@@ -13,17 +13,19 @@ fn pixels_of(w: u32, h: u32) -> usize {
     w as usize * h as usize
 }
 
+fn bad_sides(s: &Sizes, target: bool) -> bool {
+    let sides = side_ok(s.w) && side_ok(s.h) && (!target || side_ok(s.tw) && side_ok(s.th));
+    !sides || s.cw == 0 || s.ch == 0
+}
+
+fn crop_beyond(s: &Sizes) -> bool {
+    let beyond = |at: u32, len: u32, side: u32| u64::from(at) + u64::from(len) > u64::from(side);
+    beyond(s.x, s.cw, s.w) || beyond(s.y, s.ch, s.h)
+}
+
 /// 0, 1 or 2 for a source, a crop and, where there is one, a target.
 pub fn sizes(s: &Sizes, target: bool) -> u32 {
-    let sides = side_ok(s.w) && side_ok(s.h) && (!target || side_ok(s.tw) && side_ok(s.th));
-    if !sides || s.cw == 0 || s.ch == 0 {
-        return 1;
-    }
-    let beyond = |at: u32, len: u32, side: u32| u64::from(at) + u64::from(len) > u64::from(side);
-    if beyond(s.x, s.cw, s.w) || beyond(s.y, s.ch, s.h) {
-        return 2;
-    }
-    0
+    first(&[(bad_sides(s, target), 1), (crop_beyond(s), 2)])
 }
 
 /// The first cause that applies, in ascending order.
@@ -33,7 +35,7 @@ fn first(causes: &[(bool, u32)]) -> u32 {
 
 pub fn resize(s: &Sizes, pixels: usize, out: usize, work: usize) -> u32 {
     match sizes(s, true) {
-        0 => first(&[(pixels != 4 * pixels_of(s.w, s.h), 3), (out != 4 * pixels_of(s.tw, s.th), 4), (work < 8 * s.tw as usize, 5)]),
+        0 => first(&[(pixels != 4 * pixels_of(s.w, s.h), 3), (out != 4 * pixels_of(s.tw, s.th), 4), (work < s.need(), 5)]),
         n => n,
     }
 }
@@ -60,11 +62,17 @@ pub fn plane(w: u32, h: u32, pixels: usize, plane: usize) -> u32 {
     }
 }
 
+/// Order 1, 2, 5; of a plane 1, 10, 2, 5.
 pub fn start(s: &Sizes, work: usize) -> u32 {
-    match sizes(s, true) {
-        0 => first(&[(work < 8 * s.tw as usize, 5)]),
-        n => n,
-    }
+    let lanes = s.kind == PLANE && !(1..=4).contains(&s.lanes);
+    first(&[(bad_sides(s, true), 1), (lanes, 10), (crop_beyond(s), 2), (work < s.need(), 5)])
+}
+
+/// Order 1, 5, each over all three planes before the next.
+pub fn three((w, h, tw, th): (u32, u32, u32, u32), work: &[usize; 3]) -> u32 {
+    let all = planes(w, h, tw, th);
+    let short = all.iter().zip(work).any(|(s, &lent)| lent < s.need());
+    first(&[(all.iter().any(|s| bad_sides(s, true)), 1), (short, 5)])
 }
 
 /// How many of the crop's rows the first k source rows hold.
@@ -88,7 +96,12 @@ pub fn made(s: &Sizes, k: u32) -> u32 {
 
 pub fn record_ok(r: &Record) -> bool {
     let s = Sizes::of(r);
-    if sizes(&s, true) != 0 || r[K] > s.h || r[2] > 2 || r[FLAG] > 1 {
+    let form = match s.kind {
+        PICTURE => s.lanes == 4 && s.layout <= 2 && r[FLAG] <= 1,
+        PLANE => (1..=4).contains(&s.lanes) && r[LAYOUT] == 0 && r[FLAG] == 0,
+        _ => false,
+    };
+    if !form || sizes(&s, true) != 0 || r[K] > s.h {
         return false;
     }
     let least = if r[K] == 0 { 0 } else { made(&s, r[K] - 1) };
@@ -102,8 +115,7 @@ pub fn offer(r: &Record, len: usize, work: usize) -> u32 {
         return 6;
     }
     let s = Sizes::of(r);
-    let row = 4 * s.w as usize;
-    first(&[(len == 0 || len % row != 0, 3), (work < 8 * s.tw as usize, 5), (made(&s, r[K]) > r[T], 7), (r[K] == s.h, 8)])
+    first(&[(len == 0 || len % s.row(s.w) != 0, 3), (work < s.need(), 5), (made(&s, r[K]) > r[T], 7), (r[K] == s.h, 8)])
 }
 
 /// Order 6, 4, 5, 9.
@@ -112,13 +124,13 @@ pub fn take(r: &Record, out: usize, work: usize) -> u32 {
         return 6;
     }
     let s = Sizes::of(r);
-    first(&[(out != 4 * s.tw as usize, 4), (work < 8 * s.tw as usize, 5), (made(&s, r[K]) == r[T], 9)])
+    first(&[(out != s.row(s.tw), 4), (work < s.need(), 5), (made(&s, r[K]) == r[T], 9)])
 }
 
 /// "A row goes out" by its formulas: the lanes, and whether a value reaches 2^31. The original casts values to i32 before it cuts
 /// them at 255, so it takes such a one for negative; work values that rows made never bring one, a caller's own may.
 pub fn row_out(s: &Sizes, work: &[u32], t: u32, u: u32) -> (Vec<u8>, bool) {
-    let half = 4 * s.tw as usize;
+    let half = s.row(s.tw);
     let (n, m, h, g) = (u64::from(s.cw), u64::from(s.tw), u64::from(s.ch), u64::from(s.th));
     let (t, u) = (u64::from(t), u64::from(u));
     let span = if m <= n { n } else { m - 1 };

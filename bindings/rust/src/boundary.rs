@@ -2,11 +2,11 @@
 //!
 //! Each function takes slices and hands the library a pointer and a count for each, so the library's one demand holds by Rust's own rules: live memory for so many
 //! elements, aligned, and shared with no other slice of the call that is written. The library touches nothing else, keeps no pointer and never
-//! unwinds; that is proved of it. The counts of 12 words and of one or two answer words are fixed here by array types.
+//! unwinds; that is proved of it. The counts of 14 words and of one or two answer words are fixed here by array types.
 #![allow(unsafe_code)]
 
 /// The words of a job's record.
-pub type Record = [u32; 12];
+pub type Record = [u32; 14];
 
 mod raw {
     // Raw pointers and counts, never slices: a slice in an extern declaration is not passed as the library takes it, and the call crashes.
@@ -25,6 +25,39 @@ mod raw {
             work_count: usize,
             record: *mut u32,
             record_count: usize,
+        ) -> u32;
+        pub fn jonquilsaw_start_plane(
+            source_width: u32,
+            source_height: u32,
+            lanes: u32,
+            crop_x: u32,
+            crop_y: u32,
+            crop_width: u32,
+            crop_height: u32,
+            target_width: u32,
+            target_height: u32,
+            work: *mut u32,
+            work_count: usize,
+            record: *mut u32,
+            record_count: usize,
+        ) -> u32;
+        pub fn jonquilsaw_start_planes(
+            source_width: u32,
+            source_height: u32,
+            target_width: u32,
+            target_height: u32,
+            luma_work: *mut u32,
+            luma_work_count: usize,
+            cb_work: *mut u32,
+            cb_work_count: usize,
+            cr_work: *mut u32,
+            cr_work_count: usize,
+            luma: *mut u32,
+            luma_count: usize,
+            cb: *mut u32,
+            cb_count: usize,
+            cr: *mut u32,
+            cr_count: usize,
         ) -> u32;
         pub fn jonquilsaw_offer(
             record: *mut u32,
@@ -97,7 +130,7 @@ fn answered(number: u32) -> Result<(), u32> {
 }
 
 pub fn start(source: [u32; 2], layout: u32, crop: [u32; 4], target: [u32; 2], work: &mut [u32]) -> Result<Record, u32> {
-    let mut record: Record = [0; 12];
+    let mut record: Record = [0; 14];
     // SAFETY: `work` and `record` are exclusive borrows, so live, aligned and apart, each passed with its own length.
     let number = unsafe {
         raw::jonquilsaw_start(
@@ -117,6 +150,58 @@ pub fn start(source: [u32; 2], layout: u32, crop: [u32; 4], target: [u32; 2], wo
         )
     };
     answered(number).map(|()| record)
+}
+
+pub fn start_plane(source: [u32; 2], lanes: u32, crop: [u32; 4], target: [u32; 2], work: &mut [u32]) -> Result<Record, u32> {
+    let mut record: Record = [0; 14];
+    // SAFETY: `work` and `record` are exclusive borrows, so live, aligned and apart, each passed with its own length.
+    let number = unsafe {
+        raw::jonquilsaw_start_plane(
+            source[0],
+            source[1],
+            lanes,
+            crop[0],
+            crop[1],
+            crop[2],
+            crop[3],
+            target[0],
+            target[1],
+            work.as_mut_ptr(),
+            work.len(),
+            record.as_mut_ptr(),
+            record.len(),
+        )
+    };
+    answered(number).map(|()| record)
+}
+
+/// The records of luma, cb and cr.
+pub fn start_planes(source: [u32; 2], target: [u32; 2], work: [&mut [u32]; 3]) -> Result<[Record; 3], u32> {
+    let mut records: [Record; 3] = [[0; 14]; 3];
+    let lent = work.map(|values| (values.as_mut_ptr(), values.len()));
+    let answer = records.each_mut().map(|words| (words.as_mut_ptr(), words.len()));
+    // SAFETY: `work` and `records` are six exclusive borrows that last for the call, so live, aligned and apart, each passed with its own length.
+    let number = unsafe {
+        raw::jonquilsaw_start_planes(
+            source[0],
+            source[1],
+            target[0],
+            target[1],
+            lent[0].0,
+            lent[0].1,
+            lent[1].0,
+            lent[1].1,
+            lent[2].0,
+            lent[2].1,
+            answer[0].0,
+            answer[0].1,
+            answer[1].0,
+            answer[1].1,
+            answer[2].0,
+            answer[2].1,
+        )
+    };
+    answered(number).map(|()| records)
 }
 
 /// How many rows were accepted.

@@ -1,16 +1,16 @@
 //! Why a call was turned away.
 
 use crate::geometry::Rect;
-use crate::image::{Dimensions, MAX_DIMENSION};
+use crate::image::{Dimensions, MAX_DIMENSION, MAX_LANES};
 use core::fmt;
 
-/// A side of a picture or of a crop.
+/// A side of a picture, a plane or a crop.
 #[derive(Clone, Copy, PartialEq, Eq, Hash, Debug)]
 #[non_exhaustive]
 pub enum Side {
-    /// The width of a picture or a preview.
+    /// The width of a picture, a plane or a preview.
     Width,
-    /// The height of a picture or a preview.
+    /// The height of a picture, a plane or a preview.
     Height,
     /// The width of a crop.
     CropWidth,
@@ -44,20 +44,20 @@ impl fmt::Display for Side {
 #[derive(Clone, Copy, PartialEq, Eq, Hash, Debug)]
 #[non_exhaustive]
 pub enum Error {
-    /// A side of a picture or a preview is 0 or above 16,384, or one of a crop is 0.
+    /// A side of a picture, a plane or a preview is 0 or above 16,384, or one of a crop is 0.
     InvalidDimensions {
         /// The side.
         side: Side,
         /// How long it is.
         value: u64,
     },
-    /// The crop's right or bottom edge lies beyond the picture.
+    /// The crop's right or bottom edge lies beyond the source.
     CropOutOfBounds {
         /// The crop's side that reaches too far.
         side: Side,
-        /// Where it ends, in pixels from the picture's left or top.
+        /// Where it ends, in pixels from the source's left or top.
         edge: u64,
-        /// Where the picture ends.
+        /// Where the source ends.
         limit: u32,
     },
     /// Pixels that are not 4 × width × height bytes, an alpha plane that is not width × height, or offered bytes that are empty or no whole number of source
@@ -75,7 +75,7 @@ pub enum Error {
         /// The bytes there were.
         found: usize,
     },
-    /// Fewer work values than 8 × target width ([`Dimensions::work_len`]).
+    /// Fewer work values than 2 × lanes × target width ([`Dimensions::work_len`] for a picture, which has 4 lanes, and [`Dimensions::plane_work_len`]).
     WorkLength {
         /// The fewest that do.
         expected: usize,
@@ -90,19 +90,25 @@ pub enum Error {
     AllAccepted,
     /// A preview row asked for with none ready.
     NoneReady,
+    /// A plane of no lanes, or of more than 4.
+    InvalidLanes {
+        /// How many there are.
+        value: u32,
+    },
 }
 
 /// What a call was given, as far as an error names it: the length that fits and the one there was. A call that takes no such thing leaves it out.
 #[derive(Clone, Copy, Default)]
 pub(crate) struct Given {
     pub window: Option<(Rect, Dimensions)>,
+    pub lanes: u32,
     pub pixels: (usize, usize),
     pub out: (usize, usize),
     pub work: (usize, usize),
 }
 
 impl Error {
-    /// The library's number, 1 to 9.
+    /// The library's number, 1 to 10.
     #[must_use]
     pub const fn number(self) -> u32 {
         match self {
@@ -115,6 +121,7 @@ impl Error {
             Self::RowReady => 7,
             Self::AllAccepted => 8,
             Self::NoneReady => 9,
+            Self::InvalidLanes { .. } => 10,
         }
     }
 
@@ -133,6 +140,7 @@ impl Error {
             7 => Self::RowReady,
             8 => Self::AllAccepted,
             9 => Self::NoneReady,
+            10 => Self::InvalidLanes { value: given.lanes },
             // 100: a layout that is none or too short an answer, which the boundary's types leave no room for.
             _ => unreachable!("the library answered with number {number}"),
         }
@@ -143,7 +151,7 @@ impl fmt::Display for Error {
     fn fmt(&self, f: &mut fmt::Formatter<'_>) -> fmt::Result {
         match self {
             Self::InvalidDimensions { side, value } => write!(f, "{side} is {value}: a side is 1 to {MAX_DIMENSION}"),
-            Self::CropOutOfBounds { side, edge, limit } => write!(f, "{side} reaches to {edge}, and the picture ends at {limit}"),
+            Self::CropOutOfBounds { side, edge, limit } => write!(f, "{side} reaches to {edge}, and the source ends at {limit}"),
             Self::PixelBufferMismatch { expected, found } => {
                 write!(f, "there are {found} bytes where {expected} fit, or for an offer a multiple of it")
             }
@@ -153,6 +161,7 @@ impl fmt::Display for Error {
             Self::RowReady => f.write_str("a preview row is ready and has to be taken first"),
             Self::AllAccepted => f.write_str("all source rows were accepted before"),
             Self::NoneReady => f.write_str("no preview row is ready"),
+            Self::InvalidLanes { value } => write!(f, "there are {value} lanes: a plane has 1 to {MAX_LANES}"),
         }
     }
 }
@@ -179,12 +188,12 @@ mod tests {
     use super::*;
 
     fn given() -> Given {
-        Given { window: None, pixels: (8, 7), out: (4, 5), work: (16, 3) }
+        Given { window: None, lanes: 5, pixels: (8, 7), out: (4, 5), work: (16, 3) }
     }
 
     #[test]
     fn variants_are_the_numbers() {
-        for number in 3..=9 {
+        for number in 3..=10 {
             assert_eq!(Error::of(number, given()).number(), number);
         }
         let size = Dimensions::new(5, 4).unwrap();
@@ -216,11 +225,12 @@ mod tests {
             (size.scaled(0, u32::MAX).unwrap_err(), "the width is 5368709119: a side is 1 to 16384"),
             (size.scaled(16_384, 20_000).unwrap_err(), "the height is 20000: a side is 1 to 16384"),
             (Rect::new(0, 0, 3, 0).fits(size).unwrap_err(), "the crop's height is 0: a side is 1 to 16384"),
-            (Rect::new(u32::MAX, 0, 1, 1).fits(size).unwrap_err(), "the crop's width reaches to 4294967296, and the picture ends at 5"),
-            (Rect::new(0, 1, 5, 4).fits(size).unwrap_err(), "the crop's height reaches to 5, and the picture ends at 4"),
+            (Rect::new(u32::MAX, 0, 1, 1).fits(size).unwrap_err(), "the crop's width reaches to 4294967296, and the source ends at 5"),
+            (Rect::new(0, 1, 5, 4).fits(size).unwrap_err(), "the crop's height reaches to 5, and the source ends at 4"),
             (Error::of(3, given()), "there are 7 bytes where 8 fit, or for an offer a multiple of it"),
             (Error::of(4, given()), "the output buffer has 5 bytes and not 4"),
             (Error::of(5, given()), "there are 3 work values and not 16"),
+            (Error::of(10, given()), "there are 5 lanes: a plane has 1 to 4"),
         ] {
             assert_eq!(why.to_string(), said);
         }
@@ -229,7 +239,13 @@ mod tests {
     #[test]
     fn kinds_of_io_errors() {
         use std::io::{self, ErrorKind};
-        for (number, kind) in [(3, ErrorKind::InvalidInput), (7, ErrorKind::WouldBlock), (8, ErrorKind::InvalidInput), (9, ErrorKind::WouldBlock)] {
+        for (number, kind) in [
+            (3, ErrorKind::InvalidInput),
+            (7, ErrorKind::WouldBlock),
+            (8, ErrorKind::InvalidInput),
+            (9, ErrorKind::WouldBlock),
+            (10, ErrorKind::InvalidInput),
+        ] {
             let why = io::Error::from(Error::of(number, given()));
             assert_eq!(why.kind(), kind);
             assert_eq!(why.get_ref().and_then(|inner| inner.downcast_ref::<Error>()).map(|inner| inner.number()), Some(number));

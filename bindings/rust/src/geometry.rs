@@ -5,7 +5,7 @@ use crate::image::Dimensions;
 
 /// A crop rectangle in source-pixel coordinates: the `width x height` window whose top-left corner sits at `(x, y)`.
 ///
-/// It is held against the picture only where it is used, as in [`Image::crop`](crate::Image::crop).
+/// It is held against the source only where it is used, as in [`Job::start`](crate::Job::start).
 #[derive(Clone, Copy, PartialEq, Eq, Hash, Debug)]
 pub struct Rect {
     x: u32,
@@ -21,7 +21,7 @@ impl Rect {
         Self { x, y, width, height }
     }
 
-    /// The window that is all of a picture of this size.
+    /// The window that is all of a picture or a plane of this size.
     #[must_use]
     pub const fn of(size: Dimensions) -> Self {
         Self::new(0, 0, size.width(), size.height())
@@ -51,11 +51,11 @@ impl Rect {
         self.height
     }
 
-    /// Whether the window lies inside a picture of this size, and why not.
+    /// Whether the window lies inside a source of this size, and why not.
     ///
     /// # Errors
     ///
-    /// [`Error::InvalidDimensions`] if it is empty, else [`Error::CropOutOfBounds`] if an edge lies beyond the picture.
+    /// [`Error::InvalidDimensions`] if it is empty, else [`Error::CropOutOfBounds`] if an edge lies beyond the source.
     pub fn fits(self, size: Dimensions) -> Result<()> {
         for (side, length) in [(Side::CropWidth, self.width), (Side::CropHeight, self.height)] {
             if length == 0 {

@@ -4,13 +4,16 @@ use crate::boundary;
 use crate::error::{Error, Given, Result, Side};
 use crate::geometry::Rect;
 
-/// The largest side of a picture.
+/// The largest side of a picture or a plane.
 pub const MAX_DIMENSION: u32 = 1 << 14;
 
-/// Bytes of a pixel.
+/// The most lanes that a plane has.
+pub const MAX_LANES: u32 = 4;
+
+/// Bytes of a picture's pixel.
 const PIXEL: usize = 4;
 
-/// A picture's size: both sides lie in `1..=16384`.
+/// The size of a picture or a plane: both sides lie in `1..=16384`.
 #[derive(Clone, Copy, PartialEq, Eq, Hash, Debug)]
 pub struct Dimensions {
     width: u32,
@@ -59,22 +62,54 @@ impl Dimensions {
         self.width as u64 * self.height as u64
     }
 
-    /// The bytes of one row: 4 × width.
+    /// The bytes of a picture's row: 4 × width.
     #[must_use]
     pub const fn row_len(self) -> usize {
         PIXEL * self.width as usize
     }
 
-    /// The bytes of all rows: 4 × width × height, at most 2^30.
+    /// The bytes of a picture: 4 × width × height, at most 2^30.
     #[must_use]
     pub const fn byte_len(self) -> usize {
         self.row_len() * self.height as usize
     }
 
-    /// The work values of a job whose target has this size: 8 × width.
+    /// The work values of a picture's job whose target has this size: 8 × width.
     #[must_use]
     pub const fn work_len(self) -> usize {
         2 * PIXEL * self.width as usize
+    }
+
+    /// The bytes of a plane's row: lanes × width.
+    #[must_use]
+    pub const fn plane_row_len(self, lanes: u32) -> usize {
+        lanes as usize * self.width as usize
+    }
+
+    /// The bytes of a plane: lanes × width × height.
+    #[must_use]
+    pub const fn plane_byte_len(self, lanes: u32) -> usize {
+        self.plane_row_len(lanes) * self.height as usize
+    }
+
+    /// The work values of a plane's job whose target has this size: 2 × lanes × width.
+    #[must_use]
+    pub const fn plane_work_len(self, lanes: u32) -> usize {
+        2 * self.plane_row_len(lanes)
+    }
+
+    /// The size of the chroma planes beside a luma plane of this size: half of each side, rounded up.
+    ///
+    /// ```
+    /// use jonquilsaw::{Dimensions, Error};
+    ///
+    /// assert_eq!(Dimensions::new(641, 480)?.chroma(), Dimensions::new(321, 240)?);
+    /// assert_eq!(Dimensions::new(1, 1)?.chroma(), Dimensions::new(1, 1)?);
+    /// # Ok::<(), Error>(())
+    /// ```
+    #[must_use]
+    pub const fn chroma(self) -> Self {
+        Self { width: self.width.div_ceil(2), height: self.height.div_ceil(2) }
     }
 
     /// The size to scale to where a side of 0 is derived from the other, so that the ratio is kept; a derived side is rounded up.
@@ -116,7 +151,7 @@ impl Dimensions {
     }
 }
 
-/// The order of a pixel's bytes.
+/// The order of the bytes of a picture's pixel.
 #[derive(Clone, Copy, PartialEq, Eq, Hash, Debug, Default)]
 #[non_exhaustive]
 pub enum PixelLayout {
@@ -404,6 +439,9 @@ mod tests {
         }
         let largest = size(16384, 16384);
         assert_eq!((largest.pixel_count(), largest.byte_len(), largest.row_len(), largest.work_len()), (1 << 28, 1 << 30, 1 << 16, 1 << 17));
+        assert_eq!((largest.plane_byte_len(1), largest.plane_row_len(1), largest.plane_work_len(1)), (1 << 28, 1 << 14, 1 << 15));
+        assert_eq!((largest.plane_byte_len(4), largest.plane_row_len(4), largest.plane_work_len(4)), (1 << 30, 1 << 16, 1 << 17));
+        assert_eq!((largest.chroma(), size(16383, 1).chroma(), size(2, 3).chroma()), (size(8192, 8192), size(8192, 1), size(1, 2)));
     }
 
     #[test]

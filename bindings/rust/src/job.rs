@@ -5,10 +5,21 @@ use crate::error::{Error, Given, Result};
 use crate::geometry::Rect;
 use crate::image::{Dimensions, PixelLayout};
 
-/// A job that crops a source and scales it to a target, row by row.
+/// What a [`Job`] scales.
+#[derive(Clone, Copy, PartialEq, Eq, Hash, Debug)]
+#[non_exhaustive]
+pub enum Kind {
+    /// Pixels of 4 bytes, matted by their alpha as they come in and restored as they go out.
+    Picture,
+    /// Lanes, a byte each, scaled as they are.
+    Plane,
+}
+
+/// A job that crops a source and scales it to a target, row by row. The source is a picture ([`Job::start`]) or a plane of 1 to 4 lanes
+/// ([`Job::start_plane`]).
 ///
-/// It holds twelve words. The work values are lent to every call and must be those that the call before left: 8 × target width of them
-/// ([`Dimensions::work_len`]).
+/// It holds fourteen words. The work values are lent to every call and must be those that the call before left: 2 × lanes × target width of them
+/// ([`Dimensions::work_len`], [`Dimensions::plane_work_len`]).
 ///
 /// ```
 /// use jonquilsaw::{Dimensions, Error, Job, PixelLayout, Rect};
@@ -32,7 +43,7 @@ pub struct Job {
 }
 
 impl Job {
-    /// Starts a job and clears its work values.
+    /// Starts a picture's job and clears its work values.
     ///
     /// # Errors
     ///
@@ -46,13 +57,45 @@ impl Job {
         }
     }
 
-    /// A job from the twelve words that [`Self::record`] gave, to go on elsewhere with a copy of the work values. Words that keep the library's rules
-    /// count, whoever filled them: source width and height, layout, crop x, y, width and height, target width and height, rows accepted, rows taken, alpha flag.
+    /// Starts a plane's job and clears its work values. Each pixel of the plane is `lanes` bytes, which are scaled as they are: nothing is matted, and
+    /// [`has_alpha`](Self::has_alpha) stays false.
+    ///
+    /// # Errors
+    ///
+    /// [`Error::InvalidDimensions`] if the crop is empty, [`Error::InvalidLanes`] if `lanes` isn't 1 to 4, [`Error::CropOutOfBounds`] if the crop does not lie
+    /// inside the source, [`Error::WorkLength`] if `work` has fewer than [`target.plane_work_len(lanes)`](Dimensions::plane_work_len) values.
+    ///
+    /// ```
+    /// use jonquilsaw::{Dimensions, Error, Job, Rect};
+    ///
+    /// // Two lanes, 3 pixels wide, scaled to 2.
+    /// let (source, target) = (Dimensions::new(3, 1)?, Dimensions::new(2, 1)?);
+    /// let mut work = [0; 8];
+    /// let mut job = Job::start_plane(source, 2, Rect::of(source), target, &mut work)?;
+    /// assert_eq!(job.offer(&[10, 255, 21, 255, 30, 255], &mut work), Ok(1));
+    /// let mut row = [0; 4];
+    /// job.take(&mut row, &mut work)?;
+    /// assert_eq!(row, [14, 255, 27, 255]);
+    ///
+    /// assert_eq!(Job::start_plane(source, 5, Rect::of(source), target, &mut work), Err(Error::InvalidLanes { value: 5 }));
+    /// # Ok::<(), Error>(())
+    /// ```
+    pub fn start_plane(source: Dimensions, lanes: u32, crop: Rect, target: Dimensions, work: &mut [u32]) -> Result<Self> {
+        let given = Given { window: Some((crop, source)), lanes, work: (target.plane_work_len(lanes), work.len()), ..Given::default() };
+        match boundary::start_plane(source.words(), lanes, crop.words(), target.words(), work) {
+            Ok(record) => Ok(Self { record }),
+            Err(number) => Err(Error::of(number, given)),
+        }
+    }
+
+    /// A job from the fourteen words that [`Self::record`] gave, to go on elsewhere with a copy of the work values. Words that keep the library's rules
+    /// count, whoever filled them: source width and height, layout, crop x, y, width and height, target width and height, rows accepted, rows taken, alpha
+    /// flag, kind (0 for a picture, 1 for a plane), lanes (4 for a picture). A plane's layout and flag are 0.
     ///
     /// # Errors
     ///
     /// [`Error::InvalidRecord`] if no job can have these words.
-    pub fn from_record(record: [u32; 12]) -> Result<Self> {
+    pub fn from_record(record: [u32; 14]) -> Result<Self> {
         let mut job = Self { record };
         // A take tests the record first and turns an empty row away next, so it leaves all as it was.
         match boundary::take(&mut job.record, &mut [], &mut []) {
@@ -61,9 +104,9 @@ impl Job {
         }
     }
 
-    /// The job's twelve words.
+    /// The job's fourteen words.
     #[must_use]
-    pub const fn record(&self) -> [u32; 12] {
+    pub const fn record(&self) -> [u32; 14] {
         self.record
     }
 
@@ -72,10 +115,10 @@ impl Job {
     ///
     /// # Errors
     ///
-    /// [`Error::PixelBufferMismatch`] if `rows` is empty or no whole number of source rows, [`Error::WorkLength`], [`Error::RowReady`] if a preview row has to be
-    /// taken first, [`Error::AllAccepted`]. The job and `work` stay as they were.
+    /// [`Error::PixelBufferMismatch`] if `rows` is empty or no whole number of source rows ([`Self::row_len`]), [`Error::WorkLength`], [`Error::RowReady`] if a
+    /// preview row has to be taken first, [`Error::AllAccepted`]. The job and `work` stay as they were.
     pub fn offer(&mut self, rows: &[u8], work: &mut [u32]) -> Result<usize> {
-        let given = Given { pixels: (self.source().row_len(), rows.len()), work: (self.target().work_len(), work.len()), ..Given::default() };
+        let given = Given { pixels: (self.row_len(), rows.len()), work: (self.work_len(), work.len()), ..Given::default() };
         match boundary::offer(&mut self.record, rows, work) {
             Ok(count) => Ok(count as usize),
             Err(number) => Err(Error::of(number, given)),
@@ -86,10 +129,10 @@ impl Job {
     ///
     /// # Errors
     ///
-    /// [`Error::OutputLength`] if `out` isn't exactly a row of the target, [`Error::WorkLength`], [`Error::NoneReady`]. The job, `out` and `work` stay as they
-    /// were.
+    /// [`Error::OutputLength`] if `out` isn't exactly a row of the target ([`Self::out_len`]), [`Error::WorkLength`], [`Error::NoneReady`]. The job, `out` and
+    /// `work` stay as they were.
     pub fn take(&mut self, out: &mut [u8], work: &mut [u32]) -> Result<()> {
-        let given = Given { out: (self.target().row_len(), out.len()), work: (self.target().work_len(), work.len()), ..Given::default() };
+        let given = Given { out: (self.out_len(), out.len()), work: (self.work_len(), work.len()), ..Given::default() };
         boundary::take(&mut self.record, out, work).map_err(|number| Error::of(number, given))
     }
 
@@ -99,7 +142,7 @@ impl Job {
         self.size(0)
     }
 
-    /// The byte order of rows in and rows out.
+    /// The byte order of a picture's rows, in and out; [`PixelLayout::Rgba8`] for a plane, whose lanes have no names.
     ///
     /// # Panics
     ///
@@ -121,6 +164,44 @@ impl Job {
         self.size(7)
     }
 
+    /// What is scaled.
+    ///
+    /// # Panics
+    ///
+    /// Never: a job has one of the two kinds.
+    #[must_use]
+    pub const fn kind(&self) -> Kind {
+        match self.record[12] {
+            0 => Kind::Picture,
+            1 => Kind::Plane,
+            _ => unreachable!(),
+        }
+    }
+
+    /// The lanes of a plane, 1 to 4; 4 for a picture.
+    #[must_use]
+    pub const fn lanes(&self) -> u32 {
+        self.record[13]
+    }
+
+    /// The bytes of a source row: lanes × width.
+    #[must_use]
+    pub const fn row_len(&self) -> usize {
+        self.source().plane_row_len(self.lanes())
+    }
+
+    /// The bytes of a preview row: lanes × width.
+    #[must_use]
+    pub const fn out_len(&self) -> usize {
+        self.target().plane_row_len(self.lanes())
+    }
+
+    /// The fewest work values that every call asks for: 2 × lanes × target width.
+    #[must_use]
+    pub const fn work_len(&self) -> usize {
+        self.target().plane_work_len(self.lanes())
+    }
+
     /// Source rows accepted.
     #[must_use]
     pub const fn accepted(&self) -> u32 {
@@ -133,7 +214,7 @@ impl Job {
         self.record[10]
     }
 
-    /// Whether an alpha byte other than 255 stood in a row taken.
+    /// Whether an alpha byte other than 255 stood in a row taken; false for a plane.
     #[must_use]
     pub const fn has_alpha(&self) -> bool {
         self.record[11] != 0
@@ -143,6 +224,11 @@ impl Job {
     #[must_use]
     pub const fn is_done(&self) -> bool {
         self.taken() == self.record[8]
+    }
+
+    /// A job of a record that the library wrote.
+    pub(crate) const fn of_fresh(record: Record) -> Self {
+        Self { record }
     }
 
     const fn size(&self, at: usize) -> Dimensions {
@@ -164,9 +250,10 @@ mod tests {
     #[test]
     fn what_a_record_says() {
         let mut job = job(&mut [7; 8]).unwrap();
-        assert_eq!(job.record(), [2, 3, 2, 1, 1, 1, 2, 1, 2, 0, 0, 0]);
+        assert_eq!(job.record(), [2, 3, 2, 1, 1, 1, 2, 1, 2, 0, 0, 0, 0, 4]);
         assert_eq!((job.source(), job.target()), (Dimensions::new(2, 3).unwrap(), Dimensions::new(1, 2).unwrap()));
         assert_eq!((job.layout(), job.crop()), (PixelLayout::Bgra8, Rect::new(1, 1, 1, 2)));
+        assert_eq!((job.kind(), job.lanes(), job.row_len(), job.out_len(), job.work_len()), (Kind::Picture, 4, 8, 4, 8));
         assert_eq!((job.accepted(), job.taken(), job.has_alpha(), job.is_done()), (0, 0, false, false));
         // The first row lies above the crop, the second makes a preview row ready.
         let mut work = [0; 8];
@@ -225,7 +312,8 @@ mod tests {
     fn records_from_elsewhere() {
         let fresh = job(&mut [0; 8]).unwrap();
         assert_eq!(Job::from_record(fresh.record()), Ok(fresh.clone()));
-        for (at, word) in [(0, 0), (1, 16385), (2, 3), (5, 0), (6, 3), (7, 0), (9, 4), (10, 1), (11, 1), (11, 2)] {
+        for (at, word) in [(0, 0), (1, 16385), (2, 3), (5, 0), (6, 3), (7, 0), (9, 4), (10, 1), (11, 1), (11, 2), (12, 1), (12, 2), (13, 3), (13, 5)]
+        {
             let mut record = fresh.record();
             record[at] = word;
             assert_eq!(Job::from_record(record), Err(Error::InvalidRecord), "word {at} is {word}");

@@ -1,15 +1,19 @@
-//! A picture scaler that takes source rows as they arrive and hands out preview rows as they become ready, byte for byte what webpkit's `Image::crop` and
-//! `Image::resize` make of the whole picture. The arithmetic is a library written and proved in Rattle; this crate is its Rust face, with no dependency.
+//! A scaler that takes source rows as they arrive and hands out preview rows as they become ready: of a picture, byte for byte what webpkit's `Image::crop` and
+//! `Image::resize` make of the whole, and of planes of 1 to 4 lanes. The arithmetic is a library written and proved in Rattle; this crate is its Rust face,
+//! with no dependency.
 //!
 //! - [`Preview`] takes bytes in pieces of any length, as a socket delivers them, and hands out preview rows; [`PreviewWriter`] does so as a [`std::io::Write`].
 //! - [`Image`] and [`ImageRef`] hold whole pictures: [`Image::crop`], [`Image::resize`], [`Image::apply_alpha_plane`], with webpkit's names.
 //! - [`Job`] is the library's own job over lent buffers: whole rows in by [`Job::offer`], a row out by [`Job::take`], no heap.
-//! - [`Dimensions::scaled`] derives a target size from one side.
+//! - [`Preview::plane`] and [`Job::start_plane`] scale a plane of 1 to 4 lanes; [`Preview::planes`] and [`Planes`] scale luma and both chroma planes of a
+//!   4:2:0 picture.
+//! - [`Dimensions::scaled`] derives a target size from one side; [`Dimensions::chroma`] halves both.
 //!
-//! Without the feature `std`, which is on by default, the crate is `no_std` and uses no heap: [`Job`], [`ImageRef`], [`apply_alpha_plane`], [`Dimensions`],
-//! [`Rect`] and [`Error`] are there.
+//! Without the feature `std`, which is on by default, the crate is `no_std` and uses no heap: [`Job`], [`Planes`], [`ImageRef`], [`apply_alpha_plane`],
+//! [`Dimensions`], [`Rect`] and [`Error`] are there.
 //!
-//! Pixels are 4 bytes each in a [`PixelLayout`]'s order, rows stand one after another without gaps, and colours are not premultiplied by alpha.
+//! Rows stand one after another without gaps. A picture's pixels are 4 bytes each in a [`PixelLayout`]'s order, and their colours are not premultiplied by
+//! alpha. A plane's pixels are 1 to 4 lanes, a byte each, side by side, which are scaled as they are.
 //!
 //! ```
 //! use jonquilsaw::{Dimensions, PixelLayout, Preview, Rect};
@@ -38,6 +42,7 @@ mod error;
 mod geometry;
 mod image;
 mod job;
+mod planes;
 #[cfg(feature = "std")]
 mod preview;
 
@@ -45,7 +50,8 @@ pub use error::{Error, Result, Side};
 pub use geometry::Rect;
 #[cfg(feature = "std")]
 pub use image::Image;
-pub use image::{Dimensions, ImageRef, MAX_DIMENSION, PixelLayout, apply_alpha_plane};
-pub use job::Job;
+pub use image::{Dimensions, ImageRef, MAX_DIMENSION, MAX_LANES, PixelLayout, apply_alpha_plane};
+pub use job::{Job, Kind};
+pub use planes::Planes;
 #[cfg(feature = "std")]
 pub use preview::{IntoInnerError, Preview, PreviewError, PreviewWriter};

@@ -2,8 +2,9 @@
 
 use crate::error::{Error, Result};
 use crate::geometry::Rect;
-use crate::image::{Dimensions, PixelLayout};
+use crate::image::{Dimensions, MAX_LANES, PixelLayout};
 use crate::job::Job;
+use crate::planes::Planes;
 use std::fmt;
 use std::io::{self, Write};
 
@@ -15,9 +16,9 @@ use std::io::{self, Write};
 pub enum PreviewError {
     /// A preview row is ready: ask [`Preview::next_row`] until it has none.
     RowReady,
-    /// Every byte of the picture was there before these.
+    /// Every byte of the source was there before these.
     TooManyBytes,
-    /// The picture has this many bytes more.
+    /// The source has this many bytes more.
     EndsEarly {
         /// The bytes that have not arrived.
         missing: usize,
@@ -30,8 +31,8 @@ impl fmt::Display for PreviewError {
     fn fmt(&self, f: &mut fmt::Formatter<'_>) -> fmt::Result {
         match self {
             Self::RowReady => Error::RowReady.fmt(f),
-            Self::TooManyBytes => f.write_str("there are more bytes than the picture has"),
-            Self::EndsEarly { missing } => write!(f, "the picture ends {missing} bytes early"),
+            Self::TooManyBytes => f.write_str("there are more bytes than the source has"),
+            Self::EndsEarly { missing } => write!(f, "the source ends {missing} bytes early"),
             Self::Refused(why) => why.fmt(f),
         }
     }
@@ -86,7 +87,7 @@ enum Next {
     Unknown,
 }
 
-/// A preview of a picture whose bytes come in pieces of any length.
+/// A preview of a picture or a plane whose bytes come in pieces of any length.
 ///
 /// It holds one source row (the one that is not whole yet), the work rows and one preview row, and allocates them when it is made and nothing afterwards.
 /// Source rows that come whole are not copied.
@@ -120,23 +121,84 @@ pub struct Preview {
 }
 
 impl Preview {
-    /// A preview of the window `crop` of a source, scaled to `target`.
+    /// A preview of the window `crop` of a picture, scaled to `target`.
     ///
     /// # Errors
     ///
     /// [`Error::InvalidDimensions`] if the crop is empty, [`Error::CropOutOfBounds`] if it does not lie inside the source.
     pub fn new(source: Dimensions, layout: PixelLayout, crop: Rect, target: Dimensions) -> Result<Self> {
         let mut work = vec![0; target.work_len()];
-        let job = Job::start(source, layout, crop, target, &mut work)?;
-        Ok(Self { job, work, partial: Vec::with_capacity(source.row_len()), row: vec![0; target.row_len()], next: Next::None })
+        Job::start(source, layout, crop, target, &mut work).map(|job| Self::of(job, work))
     }
 
-    /// Takes bytes, from the first that has not come yet, and returns how many: all of them, or fewer where a preview row became ready or the picture ended.
+    /// A preview of the window `crop` of a plane, whose pixels are `lanes` bytes each, scaled to `target`. The lanes are scaled as they are, and
+    /// [`finish`](Self::finish) answers false.
+    ///
+    /// # Errors
+    ///
+    /// [`Error::InvalidDimensions`] if the crop is empty, [`Error::InvalidLanes`] if `lanes` isn't 1 to 4, [`Error::CropOutOfBounds`] if the crop does not lie
+    /// inside the source.
+    ///
+    /// ```
+    /// use jonquilsaw::{Dimensions, Preview, Rect};
+    ///
+    /// let source = Dimensions::new(3, 2)?;
+    /// let mut preview = Preview::plane(source, 1, Rect::of(source), Dimensions::new(2, 1)?)?;
+    /// let mut rows = Vec::new();
+    /// for piece in [&[10, 21][..], &[30, 10, 21, 30]] {
+    ///     preview.feed(piece, |row| rows.extend_from_slice(row))?;
+    /// }
+    /// assert_eq!(rows, [14, 27]);
+    /// assert_eq!(preview.finish(), Ok(false));
+    /// # Ok::<(), Box<dyn std::error::Error>>(())
+    /// ```
+    pub fn plane(source: Dimensions, lanes: u32, crop: Rect, target: Dimensions) -> Result<Self> {
+        // More lanes are refused before the work values are counted.
+        let mut work = vec![0; target.plane_work_len(lanes.min(MAX_LANES))];
+        Job::start_plane(source, lanes, crop, target, &mut work).map(|job| Self::of(job, work))
+    }
+
+    /// Previews of luma, cb and cr of a 4:2:0 picture, as [`Planes`] has them. The sizes are luma's.
+    ///
+    /// # Panics
+    ///
+    /// Never: the library refuses only sizes and lengths, and these fit.
+    ///
+    /// ```
+    /// use jonquilsaw::{Dimensions, Preview};
+    ///
+    /// // 4 by 2: eight bytes of luma, then two of each chroma plane.
+    /// let picture = [10, 20, 30, 40, 10, 20, 30, 40, 100, 110, 200, 220];
+    /// let mut rest = &picture[..];
+    /// let mut made = Vec::new();
+    /// for mut preview in Preview::planes(Dimensions::new(4, 2)?, Dimensions::new(2, 1)?) {
+    ///     let (plane, after) = rest.split_at(preview.missing());
+    ///     preview.feed(plane, |row| made.extend_from_slice(row))?;
+    ///     rest = after;
+    /// }
+    /// assert_eq!(made, [15, 35, 105, 210]);
+    /// # Ok::<(), Box<dyn std::error::Error>>(())
+    /// ```
+    #[must_use]
+    pub fn planes(source: Dimensions, target: Dimensions) -> [Self; 3] {
+        let work = |size: Dimensions| vec![0; size.plane_work_len(1)];
+        let (mut luma, mut cb, mut cr) = (work(target), work(target.chroma()), work(target.chroma()));
+        let jobs = Planes::start(source, target, [&mut luma, &mut cb, &mut cr]).expect("sizes are in range and every slice has the library's length");
+        [Self::of(jobs.luma, luma), Self::of(jobs.cb, cb), Self::of(jobs.cr, cr)]
+    }
+
+    /// A preview by a fresh job with its work values.
+    fn of(job: Job, work: Vec<u32>) -> Self {
+        let (partial, row) = (Vec::with_capacity(job.row_len()), vec![0; job.out_len()]);
+        Self { job, work, partial, row, next: Next::None }
+    }
+
+    /// Takes bytes, from the first that has not come yet, and returns how many: all of them, or fewer where a preview row became ready or the source ended.
     /// Give the rest again after [`next_row`](Self::next_row) has handed out what is ready.
     ///
     /// # Errors
     ///
-    /// [`PreviewError::RowReady`] if a preview row is ready, [`PreviewError::TooManyBytes`] if the whole picture has come. No byte is taken then.
+    /// [`PreviewError::RowReady`] if a preview row is ready, [`PreviewError::TooManyBytes`] if the whole source has come. No byte is taken then.
     pub fn push(&mut self, bytes: &[u8]) -> Result<usize, PreviewError> {
         let mut taken = 0;
         while taken < bytes.len() {
@@ -166,7 +228,7 @@ impl Preview {
     ///
     /// # Errors
     ///
-    /// [`PreviewError::TooManyBytes`] if bytes are left after the picture's last. Those of the picture are taken and its rows are handed out.
+    /// [`PreviewError::TooManyBytes`] if bytes are left after the source's last. Those of the source are taken and the preview's rows are handed out.
     pub fn feed(&mut self, bytes: &[u8], mut each: impl FnMut(&[u8])) -> Result<(), PreviewError> {
         let mut taken = 0;
         loop {
@@ -186,14 +248,13 @@ impl Preview {
         self.job.is_done() && self.next != Next::Held
     }
 
-    /// How many of the picture's bytes have not come.
+    /// How many of the source's bytes have not come.
     #[must_use]
     pub fn missing(&self) -> usize {
-        let source = self.job.source();
-        source.byte_len() - self.job.accepted() as usize * source.row_len() - self.partial.len()
+        (self.job.source().height() - self.job.accepted()) as usize * self.job.row_len() - self.partial.len()
     }
 
-    /// Says that no more bytes come, and returns whether an alpha byte of the preview isn't 255.
+    /// Says that no more bytes come, and returns whether an alpha byte of the preview isn't 255; false for a plane.
     ///
     /// # Errors
     ///
@@ -226,7 +287,7 @@ impl Preview {
     /// Takes at least one of the bytes. No row is ready and bytes are missing, so the job accepts what it is offered.
     fn accept(&mut self, bytes: &[u8]) -> usize {
         const ACCEPTED: &str = "no row is ready, source rows remain and every buffer has the right length";
-        let stride = self.job.source().row_len();
+        let stride = self.job.row_len();
         let whole = bytes.len() / stride * stride;
         if self.partial.is_empty() && whole > 0 {
             self.next = Next::Unknown;
@@ -243,7 +304,7 @@ impl Preview {
     }
 }
 
-/// A [`Preview`] as a [`Write`]: the picture's bytes are written to it in pieces of any length, and it writes each preview row to a sink as it becomes ready.
+/// A [`Preview`] as a [`Write`]: the source's bytes are written to it in pieces of any length, and it writes each preview row to a sink as it becomes ready.
 ///
 /// End with [`finish`](Self::finish), which gives the sink back. Nothing is written when it is dropped.
 ///
@@ -294,7 +355,7 @@ impl<W: Write> PreviewWriter<W> {
         }
     }
 
-    /// The sink alone, with every row that is ready. The picture need not be whole: [`finish`](Self::finish) asks that.
+    /// The sink alone, with every row that is ready. The source need not be whole: [`finish`](Self::finish) asks that.
     ///
     /// # Errors
     ///

@@ -1,6 +1,6 @@
 //! What needs no heap, without the feature `std` too: jobs and pictures over lent buffers.
 
-use jonquilsaw::{Dimensions, Error, ImageRef, Job, PixelLayout, Rect, apply_alpha_plane};
+use jonquilsaw::{Dimensions, Error, ImageRef, Job, Kind, PixelLayout, Planes, Rect, apply_alpha_plane};
 
 const PICTURE: [u8; 24] = [10, 20, 30, 255, 40, 50, 60, 255, 70, 80, 90, 255, 15, 25, 35, 255, 45, 55, 65, 255, 75, 85, 95, 255];
 
@@ -35,5 +35,34 @@ fn a_crop_and_a_plane_in_place() -> Result<(), Error> {
     let mut window = [0; 4];
     assert_eq!(ImageRef::new(size, PixelLayout::Rgba8, &pixels)?.crop_into(Rect::new(1, 1, 1, 1), &mut window), Ok(true));
     assert_eq!(window, [15, 25, 35, 254]);
+    Ok(())
+}
+
+#[test]
+fn planes_over_lent_buffers() -> Result<(), Error> {
+    let (source, target) = (Dimensions::new(3, 2)?, Dimensions::new(2, 1)?);
+    // Three lanes: the first two are those of a trial of docs/SCOPE.md and its reverse, the last is one value.
+    let mut work = [9; 14];
+    let mut job = Job::start_plane(source, 3, Rect::of(source), target, &mut work)?;
+    assert_eq!((job.kind(), job.lanes(), job.row_len(), job.out_len(), job.work_len()), (Kind::Plane, 3, 9, 6, 12));
+    assert_eq!(work, [0, 0, 0, 0, 0, 0, 0, 0, 0, 0, 0, 0, 9, 9]);
+    let row = [10, 30, 7, 21, 21, 7, 30, 10, 7];
+    let mut out = [0; 6];
+    assert_eq!(job.offer(&row, &mut work), Ok(1));
+    assert_eq!(job.take(&mut out, &mut work), Err(Error::NoneReady));
+    assert_eq!(job.offer(&row, &mut work), Ok(1));
+    job.take(&mut out, &mut work)?;
+    assert_eq!((out, job.has_alpha(), job.is_done()), ([14, 27, 7, 27, 14, 7], false, true));
+
+    let (mut luma, mut cb, mut cr) = ([9; 4], [9; 2], [9; 2]);
+    let mut planes = Planes::start(source, target, [&mut luma, &mut cb, &mut cr])?;
+    assert_eq!((planes.luma.source(), planes.cb.source(), planes.cr.target()), (source, source.chroma(), target.chroma()));
+    assert_eq!(planes.luma.offer(&[10, 21, 30, 10, 21, 30], &mut luma), Ok(2));
+    planes.luma.take(&mut out[..2], &mut luma)?;
+    for (job, work, value) in [(&mut planes.cb, &mut cb, 100), (&mut planes.cr, &mut cr, 200)] {
+        assert_eq!(job.offer(&[value, value + 20], work), Ok(1));
+        job.take(&mut out[2..3], work)?;
+        assert_eq!(out[..3], [14, 27, value + 10]);
+    }
     Ok(())
 }

@@ -2,7 +2,7 @@
 #![cfg(feature = "std")]
 #![allow(unsafe_code)]
 
-use jonquilsaw::{Dimensions, PixelLayout, Preview, Rect};
+use jonquilsaw::{Dimensions, Error, PixelLayout, Preview, Rect};
 use std::alloc::{GlobalAlloc, Layout, System};
 use std::cell::Cell;
 
@@ -47,4 +47,19 @@ fn one_source_row_the_work_rows_and_one_preview_row() {
         preview.feed(&piece[..length], |_| rows += 1).unwrap();
     }
     assert_eq!((rows, allocated() - before), (9, 0));
+}
+
+#[test]
+fn a_plane_takes_its_own_lanes() {
+    let (source, target) = (Dimensions::new(16384, 30).unwrap(), Dimensions::new(500, 9).unwrap());
+    for lanes in 1..=4 {
+        let before = allocated();
+        let preview = Preview::plane(source, lanes, Rect::of(source), target).unwrap();
+        assert_eq!(allocated() - before, source.plane_row_len(lanes) + 4 * target.plane_work_len(lanes) + target.plane_row_len(lanes));
+        assert_eq!(preview.missing(), source.plane_byte_len(lanes));
+    }
+    // What is refused takes no more than four lanes would.
+    let before = allocated();
+    assert_eq!(Preview::plane(source, u32::MAX, Rect::of(source), target).unwrap_err(), Error::InvalidLanes { value: u32::MAX });
+    assert_eq!(allocated() - before, 4 * target.work_len());
 }

@@ -140,7 +140,7 @@ fn a_row_that_is_pending_is_not_lost_with_the_sink() {
     let mut part = writer(Told::default());
     part.write_all(&PICTURE[..6]).unwrap();
     let (why, part) = part.finish().unwrap_err().into_parts();
-    assert_eq!((why.kind(), why.to_string()), (ErrorKind::UnexpectedEof, "the picture ends 6 bytes early".into()));
+    assert_eq!((why.kind(), why.to_string()), (ErrorKind::UnexpectedEof, "the source ends 6 bytes early".into()));
     assert_eq!(part.into_inner().unwrap().got, PICTURE[..4]);
 }
 
@@ -181,11 +181,11 @@ fn a_writer_says_what_is_wrong() {
     let mut writer = PreviewWriter::new(Preview::new(source, PixelLayout::Rgba8, Rect::of(source), source).unwrap(), Vec::new());
     writer.write_all(&picture[..11]).unwrap();
     let (early, mut writer) = writer.finish().unwrap_err().into_parts();
-    assert_eq!((early.kind(), early.to_string()), (ErrorKind::UnexpectedEof, "the picture ends 5 bytes early".into()));
+    assert_eq!((early.kind(), early.to_string()), (ErrorKind::UnexpectedEof, "the source ends 5 bytes early".into()));
     assert_eq!(early.get_ref().and_then(|why| why.downcast_ref()), Some(&PreviewError::EndsEarly { missing: 5 }));
     assert_eq!(writer.preview().missing(), 5);
     let late = writer.write_all(&picture[11..]).unwrap_err();
-    assert_eq!((late.kind(), late.to_string()), (ErrorKind::InvalidInput, "there are more bytes than the picture has".into()));
+    assert_eq!((late.kind(), late.to_string()), (ErrorKind::InvalidInput, "there are more bytes than the source has".into()));
     assert!(writer.is_done());
     let (sink, has_alpha) = writer.finish().unwrap();
     assert!(has_alpha);

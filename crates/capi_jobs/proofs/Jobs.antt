@@ -13,15 +13,16 @@ use Rattle.pixels.specs.Refusals.{number, bufferIf}
 use Rattle.job_rules.specs.declared.Plan.{Plan}
 use Rattle.job_rules.specs.Rules.{startNumber}
 use Rattle.job.specs.declared.Job.{Job}
-use Rattle.job.specs.declared.Started.{Started}
-use Rattle.job.specs.declared.Started.the-variants as started
 use Rattle.job.specs.declared.Offered.{Offered}
 use Rattle.job.specs.declared.Offered.the-variants as offered
 use Rattle.job.specs.declared.Taken.{Taken}
 use Rattle.job.specs.declared.Taken.the-variants as taken
-use Rattle.job.specs.Answers.{startedNumber, startedJob, offeredNumber, offeredRows, offeredJob, takenNumber, takenJob}
+use Rattle.job.specs.Answers.{offeredNumber, offeredRows, offeredJob, takenNumber, takenJob}
 use Rattle.job.specs.Record.{fresh}
-use Rattle.job.specs.Calls.{startWork, offerNumber, offerRows, offerJob, offerWork, takeNumber, takeJob, takeOut, takeWork}
+use Rattle.job.specs.Calls.{offerNumber, offerRows, offerJob, offerWork, takeNumber, takeJob, takeOut, takeWork}
+use Rattle.job_start.specs.declared.Started.{Started}
+use Rattle.job_start.specs.declared.Started.the-variants as started
+use Rattle.job_start.specs.Start.{startedNumber, startedJob, startWork}
 use Rattle.capi_record.specs.declared.Told.{Told}
 use Rattle.capi_record.specs.declared.Told.the-variants as told
 use Rattle.capi_record.specs.Record.{wordsJob, toldBy, storedJob, recordFirst}

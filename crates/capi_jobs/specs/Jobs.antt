@@ -7,7 +7,8 @@ use lib.ListN.{length}
 use Rattle.pixels.specs.Refusals.{bufferIf}
 use Rattle.job_rules.specs.Rules.{startNumber}
 use Rattle.job.specs.Record.{fresh}
-use Rattle.job.specs.Calls.{startWork, offerNumber, offerRows, offerJob, offerWork, takeNumber, takeJob, takeOut, takeWork}
+use Rattle.job.specs.Calls.{offerNumber, offerRows, offerJob, offerWork, takeNumber, takeJob, takeOut, takeWork}
+use Rattle.job_start.specs.Start.{startWork}
 use Rattle.capi_record.specs.Record.{recordLength, wordsPlan, wordsJob, storedJob, recordFirst}
 use Rattle.capi_words.specs.Boundary.{boundaryFirst, misused, storedWord}
 

@@ -10,8 +10,9 @@ use capi_words::layout_of;
 use capi_words::misused;
 use capi_words::store;
 use job::Offered;
-use job::Started;
 use job::Taken;
+use job_start::Started;
+use job_start::start;
 use pixels::Dimensions;
 use pixels::Rect;
 use pixels::Refusal;
@@ -20,7 +21,7 @@ ghost use lib.ListN.{length};
 ghost use Rattle.capi_jobs.specs.Jobs.{numberOfStart, workAfterStart, recordAfterStart, numberOfOffer, recordAfterOffer, workAfterOffer, countAfterOffer, numberOfTake, recordAfterTake, outAfterTake, workAfterTake};
 
 // A fresh job: its record in lent words, and the work rows cleared.
-// Rules out: source and target exchanged; eleven words enough for the record.
+// Rules out: source and target exchanged; thirteen words enough for the record.
 #[no_mangle]
 pub extern "C" fn jonquilsaw_start(
     source_width: u32,
@@ -56,7 +57,7 @@ pub extern "C" fn jonquilsaw_start(
         width: target_width,
         height: target_height,
     };
-    let answer = job::start(source, layout_of(layout), crop, target, work);
+    let answer = start(source, layout_of(layout), crop, target, work);
     match answer {
         Started::Refused { why } => why.number(),
         Started::Fresh { job } => {

@@ -4,6 +4,7 @@ use capi_words::flag_word;
 use capi_words::layout_of;
 use capi_words::store;
 use job::Job;
+use job_rules::Kind;
 use job_rules::Plan;
 use pixels::Dimensions;
 use pixels::Rect;
@@ -12,10 +13,13 @@ ghost use mathlib.Core.Path.{_≡_};
 ghost use Prim.Native.Nat.{_≤_};
 ghost use lib.ListN.{length};
 ghost use Rattle.capi_words.specs.Words.{layoutWord};
-ghost use Rattle.capi_record.specs.Record.{recordLength, wordsJob, wordsLegal, toldBy, storedJob};
+ghost use Rattle.capi_record.specs.Record.{recordLength, wordKind, kindWord, wordsJob, wordsLegal, toldBy, storedJob};
 
 // How many words a record takes.
-pub const RECORD_WORDS: usize = 12;
+pub const RECORD_WORDS: usize = 14;
+
+// Kinds are numbered from 0 in the order of Kind.
+const KINDS: u32 = 2;
 
 // What the words of a record tell: the record, or nothing where they make none.
 pub enum Told {
@@ -34,7 +38,26 @@ fn layout_word(layout: PixelLayout) -> u32
     }
 }
 
-// Whether the words make a record: enough of them, the layout's and the flag's among their values.
+// The kind that a word names, a picture where it names none; and the word of a kind.
+fn kind_of(word: u32) -> Kind
+    ensures { λ r. ⌜ r ≡ wordKind word ⌝ }
+{
+    match word {
+        1 => Kind::Plane,
+        _ => Kind::Picture,
+    }
+}
+
+fn kind_word(kind: Kind) -> u32
+    ensures { λ r. ⌜ r ≡ kindWord kind ⌝ }
+{
+    match kind {
+        Kind::Picture => 0,
+        Kind::Plane => 1,
+    }
+}
+
+// Whether the words make a record: enough of them, the layout's, the flag's and the kind's among their values.
 fn legal(words: &[u32]) -> bool
     ensures { λ r. ⌜ r ≡ wordsLegal (now (words .entry)) ⌝ }
 {
@@ -42,6 +65,9 @@ fn legal(words: &[u32]) -> bool
         return false;
     }
     if words[2] >= LAYOUTS {
+        return false;
+    }
+    if words[12] >= KINDS {
         return false;
     }
     words[11] <= 1
@@ -66,11 +92,14 @@ fn job_of(words: &[u32]) -> Job
         height: words[8],
     };
     let layout = layout_of(words[2]);
+    let kind = kind_of(words[12]);
     let plan = Plan {
         source: source,
         layout: layout,
         crop: crop,
         target: target,
+        kind: kind,
+        lanes: words[13],
     };
     Job {
         plan: plan,
@@ -81,7 +110,7 @@ fn job_of(words: &[u32]) -> Job
 }
 
 // The record that words tell; whether it meets the rules is for the job to say.
-// Rules out: a record of eleven words; a flag word of 2 read as a flag; two words exchanged.
+// Rules out: a record of thirteen words; a flag word or a kind word of 2 taken; two words exchanged.
 pub fn read_job(words: &[u32]) -> Told
     ensures { λ r. ⌜ r ≡ toldBy (now (words .entry)) ⌝ }
 {
@@ -98,6 +127,7 @@ pub fn store_job(job: Job, words: &mut [u32])
 {
     let plan = job.plan;
     let layout = plan.layout;
+    let kind = plan.kind;
     let answer = [
         plan.source.width,
         plan.source.height,
@@ -111,6 +141,8 @@ pub fn store_job(job: Job, words: &mut [u32])
         job.accepted,
         job.taken,
         flag_word(job.flag),
+        kind_word(kind),
+        plan.lanes,
     ];
     store(&answer, words);
 }

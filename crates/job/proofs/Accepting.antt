@@ -16,7 +16,8 @@ use Rattle.rows_schedule.proofs.Crop.{rows-le}
 use Rattle.rows_in.specs.In.{inWork}
 use Rattle.job_rules.specs.declared.Plan.{Plan}
 use Rattle.job.specs.declared.Job.{Job}
-use Rattle.job_rules.specs.Rules.{lanesOf, R}
+use Rattle.job_rules.specs.Rules.{lanesOf, formOf, R}
+use Rattle.job_rules.proofs.KindRules.{lane-count, lanes-form}
 use Rattle.job.specs.Inner.{RowAsks}
 use Rattle.job.specs.Calls.{lentRows, mostRows, count, rowAccepted, fed, offerNumber}
 use Rattle.job.proofs.Counting.{counted-is}
@@ -97,9 +98,15 @@ module _ (j : Job) (rows before : List ℕ) (most : ℕ) (goes : offerNumber j (
       row-is = rw s-is (row-part (lanesOf (j .plan)) rows (j .plan .source .width) i)
 
       asks : RowAsks (j .plan) row work
-      asks = record { fits = o .rules .sizes; long = ap length row-is ∙ picture-row-long; room = omega (arith, o .room, a .long) }
+      asks = record {
+        fits = o .rules .sizes;
+        lane-count = lane-count (j .plan .kind) (j .plan .layout) (j .plan .lanes) (j .flag) (o .rules .kind-fits);
+        lanes-form = lanes-form (j .plan .kind) (j .plan .layout) (j .plan .lanes) (j .flag) (o .rules .kind-fits);
+        long = ap length row-is ∙ picture-row-long;
+        room = omega (arith, o .room, a .long);
+      }
 
-      pub next-fed : (next : List ℕ) → next ≡ inWork (j .plan .layout) (j .plan .crop) (j .plan .target) (j .accepted + i) row work
+      pub next-fed : (next : List ℕ) → next ≡ inWork (formOf (j .plan)) (j .plan .crop) (j .plan .target) (j .accepted + i) row work
           → next ≡ fed (j .plan) rows (j .accepted) (i + 1) before
       next-fed next e = e ∙ row-in (j .plan) row (j .accepted + i) work asks ∙ rw (row-is, a .fed-is) (fed-more (j .plan) rows before (j .accepted) i)
 

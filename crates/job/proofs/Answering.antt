@@ -1,35 +1,21 @@
--- What start, offer and take give, as their contracts state it: a refusal leaves everything as it was, and the call that goes through. A number that is a
+-- What offer and take give, as their contracts state it: a refusal leaves everything as it was, and the call that goes through. A number that is a
 -- cause's is not 0, so one law for each call turns it into the whole answer. Assumes nothing.
 use Prim.Native.Nat.{ℕ, _+_, _≤_}
-use mathlib.Core.Path.{_≡_, refl, sym, ap, _∙_}
+use mathlib.Core.Path.{_≡_, sym, ap, _∙_}
 use mathlib.Core.Bool.{Bool}
-use mathlib.Core.List.{List, _++_}
+use mathlib.Core.List.{List}
 use native.Mathlib.Omega.{arith}
-use lib.ListN.{length, drop, replicate}
-use borrow.Author.Tests.{eq-eqb}
+use lib.ListN.{length}
 use Rattle.pixels.specs.declared.Refusal.{Refusal}
 use Rattle.pixels.specs.Refusals.{number}
-use Rattle.pixels.specs.Sizes.{workValues}
 use Rattle.pixels.proofs.Numbers.{not-zero}
 use Rattle.rows_schedule.proofs.Crop.{rows-most}
-use Rattle.job_rules.specs.declared.Plan.{Plan}
-use Rattle.job_rules.specs.Rules.{lanesOf, R, startNumber}
+use Rattle.job_rules.specs.Rules.{R}
 use Rattle.job.specs.declared.Job.{Job}
-use Rattle.job.specs.Record.{fresh, Rules}
-use Rattle.job.specs.Calls.{startWork, mostRows, offerNumber, offerRows, offerJob, offerWork, count, moreAccepted, fed, takeNumber, takeJob, takeOut, takeWork, moreTaken, rowTaken, workTaken}
+use Rattle.job.specs.Record.{Rules}
+use Rattle.job.specs.Calls.{mostRows, offerNumber, offerRows, offerJob, offerWork, count, moreAccepted, fed, takeNumber, takeJob, takeOut, takeWork, moreTaken, rowTaken, workTaken}
 use Rattle.job.proofs.Counting.{counted-most}
 use Rattle.job.proofs.Views.{offer-went, offer-turned, take-went, take-turned}
-
--- ---- start
-module _ (p : Plan) (work : List ℕ) where
-  pub start-refused : (why : Refusal) → startNumber p (length work) ≡ number why → (number why ≡ startNumber p (length work)) × ((fresh p ≡ fresh p) × (work ≡ startWork p work))
-  unfolding startWork
-  start-refused why e = (sym e, (refl, simp (not-zero why _ e)))
-
-  pub start-goes : startNumber p (length work) ≡ 0 → (n : ℕ) (next : List ℕ) → n ≡ workValues (lanesOf p) (p .target .width) → next ≡ replicate n 0 ++ drop n work
-      → (0 ≡ startNumber p (length work)) × ((fresh p ≡ fresh p) × (next ≡ startWork p work))
-  unfolding startWork
-  start-goes z n next en e = (sym z, (refl, e ∙ rw en (simp (eq-eqb _ 0 z))))
 
 -- ---- offer
 module _ (j : Job) (rows work : List ℕ) where

@@ -7,7 +7,8 @@ use mathlib.Core.List.{List}
 use native.Mathlib.Omega.{arith}
 use lib.ListN.{length}
 use Rattle.pixels.proofs.Fitting.{size-good}
-use Rattle.pixels_alpha.specs.Alpha.{hasAlpha}
+use Rattle.rows_form.specs.declared.RowForm.{RowForm}
+use Rattle.rows_form.specs.Form.{lanesIn, flagIn}
 use Rattle.rows_schedule.specs.Schedule.{needed}
 use Rattle.rows_schedule.proofs.Needed.{needed-used}
 use Rattle.rows_due.specs.Due.{due}
@@ -17,6 +18,8 @@ use Rattle.rows_out.specs.Out.{cropSize, outNumber, rowMade, outFlag, outRow, o
 use Rattle.rows_out.proofs.ScaleRow.{scale-made}
 use Rattle.rows_out.proofs.Making.{flag-written, row-written}
 use Rattle.job_rules.specs.declared.Plan.{Plan}
+use Rattle.job_rules.specs.Rules.{lanesOf, formOf}
+use Rattle.job_rules.proofs.KindRules.{lane-count, lanes-form}
 use Rattle.job.specs.declared.Job.{Job}
 use Rattle.job.specs.Calls.{usedBy, rowTaken, workTaken, takeNumber}
 use Rattle.job.proofs.Views.{TakeWent, take-went}
@@ -44,34 +47,41 @@ module _ (j : Job) (out work : List ℕ) (goes : takeNumber j (length out) (leng
       ap (λ (u : ℕ). due h g u (j .taken)) (sym used-is)
       ∙ needed-due h g (j .taken) (w .rules .sizes .crop-height) (w .rules .sizes .target-height .some)
 
-  out-goes : outNumber (p .crop) (p .target) (j .accepted) (j .taken) (length out) (length work) ≡ 0
+  abbrev form : RowForm
+  form = formOf p
+
+  same-lanes : lanesIn form ≡ lanesOf p
+  same-lanes = lanes-form (p .kind) (p .layout) (p .lanes) (j .flag) (w .rules .kind-fits)
+
+  out-goes : outNumber (lanesIn form) (p .crop) (p .target) (j .accepted) (j .taken) (length out) (length work) ≡ 0
   out-goes =
-      scale-passes (cropSize (p .crop)) (p .target) (usedBy j) (j .taken) (length out) (length work)
+      scale-passes (lanesIn form) (cropSize (p .crop)) (p .target) (usedBy j) (j .taken) (length out) (length work)
       (record {
         crop-fits =
             size-good (cropSize (p .crop))
             (record { some = w .rules .sizes .crop-width; most = omega (arith, w .rules .sizes .right, w .rules .sizes .source-width .most) })
             (record { some = w .rules .sizes .crop-height; most = omega (arith, w .rules .sizes .bottom, w .rules .sizes .source-height .most) });
         target-fits = size-good (p .target) (w .rules .sizes .target-width) (w .rules .sizes .target-height);
-        out-exact = w .exact;
-        work-enough = w .room;
+        lane-count = rw same-lanes (lane-count (p .kind) (p .layout) (p .lanes) (j .flag) (w .rules .kind-fits));
+        out-exact = rw same-lanes (w .exact);
+        work-enough = rw same-lanes (w .room);
         ready = row-due;
       })
 
-  row-is : rowMade (p .layout) (p .crop) (p .target) (j .accepted) (j .taken) work ≡ rowTaken j work
+  row-is : rowMade form (p .crop) (p .target) (j .accepted) (j .taken) work ≡ rowTaken j work
   unfolding rowMade rowTaken
-  row-is = refl
+  row-is = rw same-lanes refl
 
-  pub row-out : (row : List ℕ) → row ≡ outRow (p .layout) (p .crop) (p .target) (j .accepted) (j .taken) out work → row ≡ rowTaken j work
-  row-out row e = e ∙ row-written (p .layout) (p .crop) (p .target) (j .accepted) (j .taken) out work out-goes ∙ row-is
+  pub row-out : (row : List ℕ) → row ≡ outRow form (p .crop) (p .target) (j .accepted) (j .taken) out work → row ≡ rowTaken j work
+  row-out row e = e ∙ row-written form (p .crop) (p .target) (j .accepted) (j .taken) out work out-goes ∙ row-is
 
-  pub flag-out : (flag : Bool) → flag ≡ outFlag (p .layout) (p .crop) (p .target) (j .accepted) (j .taken) (length out) work
-      → flag ≡ hasAlpha (p .layout) (rowTaken j work) (p .target .width)
+  pub flag-out : (flag : Bool) → flag ≡ outFlag form (p .crop) (p .target) (j .accepted) (j .taken) (length out) work
+      → flag ≡ flagIn form (rowTaken j work) (p .target .width)
   flag-out flag e =
       e
-      ∙ flag-written (p .layout) (p .crop) (p .target) (j .accepted) (j .taken) out work out-goes
-      ∙ ap (λ (s : List ℕ). hasAlpha (p .layout) s (p .target .width)) row-is
+      ∙ flag-written form (p .crop) (p .target) (j .accepted) (j .taken) out work out-goes
+      ∙ ap (λ (s : List ℕ). flagIn form s (p .target .width)) row-is
 
-  pub work-out : (next : List ℕ) → next ≡ outWork (p .crop) (p .target) (j .accepted) (j .taken) (length out) work → next ≡ workTaken j work
+  pub work-out : (next : List ℕ) → next ≡ outWork (lanesIn form) (p .crop) (p .target) (j .accepted) (j .taken) (length out) work → next ≡ workTaken j work
   unfolding workTaken
-  work-out next e = e ∙ scale-made (cropSize (p .crop)) (p .target) (usedBy j) (j .taken) out work out-goes .1
+  work-out next e = e ∙ scale-made (lanesIn form) (cropSize (p .crop)) (p .target) (usedBy j) (j .taken) out work out-goes .1 ∙ rw same-lanes refl

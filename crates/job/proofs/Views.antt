@@ -11,15 +11,14 @@ use lib.ListN.{length}
 use borrow.Author.Tests.{lt-ltb, le-ltb, le-leb, lt-leb, eq-eqb, ne-eqb, leb-false, eqb-true, eqb-false, ltb-false}
 use Rattle.pixels.specs.declared.Refusal.the-variants.{RowReady, AllAccepted, NoneReady}
 use Rattle.pixels.specs.Refusals.{Cause, number}
-use Rattle.pixels.specs.Sizes.{rowBytes, workValues, sizesCauses, sizesNumber, Fits}
-use Rattle.pixels.proofs.Fitting.{fits-of}
+use Rattle.pixels.specs.Sizes.{rowBytes, workValues}
 use Rattle.pixels.proofs.Truths.{test, neither-true, not-false, same, same-of}
 use Rattle.pixels.proofs.Causes.{first-at, first-none, none-applies}
 use Rattle.job_rules.specs.declared.Plan.{Plan}
-use Rattle.job_rules.specs.Rules.{lanesOf, R, startCauses, startNumber, badRows, offerCauses, offerNumberOf, takeCauses, takeNumberOf}
+use Rattle.job_rules.specs.Rules.{lanesOf, R, badRows, offerCauses, offerNumberOf, takeCauses, takeNumberOf}
 use Rattle.job.specs.declared.Job.{Job}
 use Rattle.job.specs.Record.{lawful, Rules}
-use Rattle.job.specs.Calls.{startWork, cleared, offerNumber, offerRows, offerJob, offerWork, count, moreAccepted, fed, takeNumber, takeJob, takeOut, takeWork, moreTaken, rowTaken, workTaken}
+use Rattle.job.specs.Calls.{offerNumber, offerRows, offerJob, offerWork, count, moreAccepted, fed, takeNumber, takeJob, takeOut, takeWork, moreTaken, rowTaken, workTaken}
 use Rattle.job_rules.proofs.Rules.{rules-of, rules-good}
 
 -- the causes of a record, in their order
@@ -43,7 +42,7 @@ pub whole-good : (p : Plan) (n : ℕ) → WholeRows p n → badRows p n ≡ fals
 whole-good p n w = simp (ne-eqb n 0 (λ e. omega (arith, w .some)), eq-eqb (n % rowBytes (lanesOf p) (p .source .width)) 0 (w .whole))
 
 -- the causes of a right call do not apply, and what that says
-room-of : (p : Plan) (w : ℕ) → ltb w (workValues (lanesOf p) (p .target .width)) ≡ false → workValues (lanesOf p) (p .target .width) ≤ w
+pub room-of : (p : Plan) (w : ℕ) → ltb w (workValues (lanesOf p) (p .target .width)) ≡ false → workValues (lanesOf p) (p .target .width) ≤ w
 room-of p w e = ltb-false w _ e
 
 room-good : (p : Plan) (w : ℕ) → workValues (lanesOf p) (p .target .width) ≤ w → ltb w (workValues (lanesOf p) (p .target .width)) ≡ false
@@ -54,22 +53,6 @@ lawful-of j e = rules-of (j .plan) (j .accepted) (j .taken) (j .flag) (not-false
 
 lawful-good : (j : Job) → Rules j → not (lawful j) ≡ false
 lawful-good j r = simp (rules-good (j .plan) (j .accepted) (j .taken) (j .flag) r)
-
--- ---- start
-pub record StartWent (p : Plan) (work : List ℕ) : Type 0 where
-  pub sizes : Fits (p .source) (p .crop) (p .target)
-  pub room : workValues (lanesOf p) (p .target .width) ≤ length work
-  pub work-after : startWork p work ≡ cleared p work
-
-pub start-went : (p : Plan) (work : List ℕ) → startNumber p (length work) ≡ 0 → StartWent p work
-unfolding startNumber startWork sizesNumber
-start-went p work e =
-    let q = none-applies (startCauses p (length work)) e in
-    record {
-      sizes = fits-of (p .source) (p .crop) (p .target) (first-none (sizesCauses (p .source) (p .crop) (p .target)) (q .0, (q .1 .0, tt)));
-      room = room-of p (length work) (q .1 .1 .0);
-      work-after = simp (eq-eqb _ 0 e);
-    }
 
 -- ---- offer
 pub record OfferTurned (j : Job) (rows work : List ℕ) : Type 0 where

@@ -1,32 +1,22 @@
--- What start, offer and take answer and leave in every buffer (SCOPE, "The job", "Why a call is turned away", "A row comes in", "A row goes out" and
+-- What offer and take answer and leave in every buffer (SCOPE, "The job", "Why a call is turned away", "A row comes in", "A row goes out" and
 -- "The list of demand 3"), for every record and any contents of the work values. Assumes nothing.
 use Prim.Native.Nat.{ℕ, zero, suc, _+_, _-_, _/_, min}
 use mathlib.Core.Bool.{Bool, cond, _||_}
-use mathlib.Core.List.{List, _++_}
+use mathlib.Core.List.{List}
 use lib.Dec.{eqb, ltb}
-use lib.ListN.{length, drop, replicate}
+use lib.ListN.{length}
 use Rattle.arithmetic.specs.Table.{tabulate}
 use Rattle.arithmetic.specs.Weight.{span}
-use Rattle.pixels.specs.Sizes.{rowBytes, halfValues, workValues}
-use Rattle.pixels_layout.specs.Lanes.{matted, restoredPlace}
-use Rattle.pixels_alpha.specs.Alpha.{hasAlpha}
+use Rattle.pixels.specs.Sizes.{rowBytes, halfValues}
 use Rattle.pixels_crop.specs.Crop.{windowOf, pictureRow}
 use Rattle.rows_schedule.specs.Schedule.{used}
+use Rattle.rows_form.specs.Form.{laneIn, placeOut, flagIn}
 use Rattle.rows.specs.Lanes.{rowValue}
 use Rattle.rows.specs.WorkRows.{Scale, rowIn, byteOut, rowLeft}
 use Rattle.rows_in.specs.In.{inCrop}
 use Rattle.job_rules.specs.declared.Plan.{Plan}
-use Rattle.job_rules.specs.Rules.{lanesOf, R, startNumber, offerNumberOf, takeNumberOf}
+use Rattle.job_rules.specs.Rules.{lanesOf, formOf, R, offerNumberOf, takeNumberOf}
 use Rattle.job.specs.declared.Job.{Job}
-
--- ---- start
-
--- "start clears both, and the rest is untouched"
-abbrev pub cleared : Plan → List ℕ → List ℕ
-cleared p work = replicate (workValues (lanesOf p) (p .target .width)) 0 ++ drop (workValues (lanesOf p) (p .target .width)) work
-
-unfoldable pub startWork : Plan → List ℕ → List ℕ
-startWork p work = cond (eqb (startNumber p (length work)) 0) (cleared p work) work
 
 -- ---- a row comes in
 
@@ -39,10 +29,10 @@ scaleBy p = record {
   w = halfValues (lanesOf p) (p .target .width);
 }
 
--- the values of a source row: its crop window, matted, each lane alone
+-- the values of a source row: its crop window, matted where it is a picture's, each lane alone
 abbrev pub valuesOf : Plan → List ℕ → ℕ → ℕ
 valuesOf p row =
-    rowValue (lanesOf p) (matted (p .layout) (windowOf (lanesOf p) row (p .crop .x) (p .crop .width))) (p .crop .width) (p .target .width)
+    rowValue (lanesOf p) (laneIn (formOf p) (windowOf (lanesOf p) row (p .crop .x) (p .crop .width))) (p .crop .width) (p .target .width)
 
 -- source row s, its bytes being row: "Rows outside the crop count and touch no work value"
 unfoldable pub rowAccepted : Plan → List ℕ → ℕ → List ℕ → List ℕ
@@ -108,11 +98,11 @@ takeNumber j n w = takeNumberOf (j .plan) (j .accepted) (j .taken) (j .flag) n w
 abbrev pub usedBy : Job → ℕ
 usedBy j = used (j .plan .crop .y) (j .plan .crop .height) (j .accepted)
 
--- the lanes of the row that goes out, "then restored and packed"
+-- the lanes of the row that goes out, a picture's "then restored and packed"
 unfoldable pub rowTaken : Job → List ℕ → List ℕ
 rowTaken j work =
     let p : Plan = j .plan in
-    tabulate (restoredPlace (p .layout) (byteOut (scaleBy p) (usedBy j) (j .taken) work)) (rowBytes (lanesOf p) (p .target .width))
+    tabulate (placeOut (formOf p) (byteOut (scaleBy p) (usedBy j) (j .taken) work)) (rowBytes (lanesOf p) (p .target .width))
 
 -- the work rows afterwards
 unfoldable pub workTaken : Job → List ℕ → List ℕ
@@ -124,7 +114,7 @@ moreTaken j row = record {
   plan = j .plan;
   accepted = j .accepted;
   taken = j .taken + 1;
-  flag = j .flag || hasAlpha (j .plan .layout) row (j .plan .target .width);
+  flag = j .flag || flagIn (formOf (j .plan)) row (j .plan .target .width);
 }
 
 unfoldable pub takeJob : Job → ℕ → List ℕ → Job

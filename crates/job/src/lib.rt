@@ -3,41 +3,29 @@
 use job_rules::Plan;
 use job_rules::check_offer;
 use job_rules::check_rules;
-use job_rules::check_start;
 use job_rules::check_take;
 use job_rules::row_bytes;
+use job_rules::row_form;
 use pixels::Checked;
-use pixels::Dimensions;
 use pixels::Flagged;
-use pixels::Rect;
 use pixels::Refusal;
-use pixels_layout::PixelLayout;
 use rows_in::put_source_row;
 use rows_out::take_row;
 use rows_schedule::rows_by;
 ghost use mathlib.Core.Path.{_≡_};
 ghost use mathlib.Core.Bool.{_||_};
-ghost use mathlib.Core.List.{_++_};
-ghost use Prim.Native.Nat.{_≤_};
-ghost use lib.ListN.{length, drop, replicate};
+ghost use lib.ListN.{length};
 ghost use Rattle.pixels.specs.Refusals.{flaggedFlag};
-ghost use Rattle.job_rules.specs.Rules.{planOf, startNumber};
-ghost use Rattle.job.specs.Answers.{startedNumber, startedJob, offeredNumber, offeredRows, offeredJob, takenNumber, takenJob};
-ghost use Rattle.job.specs.Record.{fresh, lawful, readyOf, Rules};
-ghost use Rattle.job.specs.Calls.{startWork, mostRows, fed, count, offerNumber, offerRows, offerJob, offerWork, takeNumber, moreTaken, rowTaken, workTaken, takeJob, takeOut, takeWork};
+ghost use Rattle.job.specs.Answers.{offeredNumber, offeredRows, offeredJob, takenNumber, takenJob};
+ghost use Rattle.job.specs.Record.{lawful, readyOf, Rules};
+ghost use Rattle.job.specs.Calls.{mostRows, fed, count, offerNumber, offerRows, offerJob, offerWork, takeNumber, moreTaken, rowTaken, workTaken, takeJob, takeOut, takeWork};
 
-// The record: the plan, source rows accepted, preview rows taken, and whether a taken row had an alpha byte other than 255.
+// The record: the plan, source rows accepted, preview rows taken, and whether a taken row had an alpha byte other than 255; a plane's has none.
 pub struct Job {
     pub plan: Plan,
     pub accepted: u32,
     pub taken: u32,
     pub flag: bool,
-}
-
-// A fresh job, or why there is none.
-pub enum Started {
-    Fresh { job: Job },
-    Refused { why: Refusal },
 }
 
 // How many of the rows lent were accepted, or why none; and the next record.
@@ -75,14 +63,14 @@ fn accept(j: Job, rows: &[u8], work: &mut [u32]) -> u32
     ensures work { λ _. ⌜ now (work .exit) ≡ fed (j .plan) (now (rows .entry)) (j .accepted) (count j (length (now (rows .entry)))) (now (work .entry)) ⌝ }
 {
     let p = j.plan;
-    let layout = p.layout;
+    let form = row_form(p);
     let most = most_rows(j, rows.len());
     let stride = row_bytes(p, p.source.width);
     let mut i: u32 = 0;
     let n = loop {
         let at = stride * i as usize;
         put_source_row(
-            layout,
+            form,
             p.crop,
             p.target,
             j.accepted + i,
@@ -124,60 +112,12 @@ fn row_out(j: Job, out: &mut [u8], work: &mut [u32]) -> bool
     ensures work { λ _. ⌜ now (work .exit) ≡ workTaken j (now (work .entry)) ⌝ }
 {
     let p = j.plan;
-    let layout = p.layout;
-    let made = take_row(layout, p.crop, p.target, j.accepted, j.taken, out, work);
+    let form = row_form(p);
+    let made = take_row(form, p.crop, p.target, j.accepted, j.taken, out, work);
     flag_after(j.flag, made)
 }
 
 // ---- the calls
-
-fn clear(work: &mut [u32], n: usize)
-    requires { ⌜ n ≤ length (now work) ⌝ }
-    ensures { λ _. ⌜ now (work .exit) ≡ replicate n 0 ++ drop n (now (work .entry)) ⌝ }
-{
-    let mut i: usize = 0;
-    while i < n {
-        work[i] = 0;
-        i += 1;
-    }
-}
-
-// A fresh job, and both halves of the work rows cleared.
-// Rules out: a half left as it was; the whole slice cleared, beyond the halves too; a fresh job that has accepted a row.
-pub fn start(
-    source: Dimensions,
-    layout: PixelLayout,
-    crop: Rect,
-    target: Dimensions,
-    work: &mut [u32],
-) -> Started
-    ensures number { λ r. ⌜ startedNumber r ≡ startNumber (planOf source layout crop target) (length (now (work .entry))) ⌝ }
-    ensures job { λ r. ⌜ startedJob (fresh (planOf source layout crop target)) r ≡ fresh (planOf source layout crop target) ⌝ }
-    ensures work { λ _. ⌜ now (work .exit) ≡ startWork (planOf source layout crop target) (now (work .entry)) ⌝ }
-{
-    let plan = Plan {
-        source: source,
-        layout: layout,
-        crop: crop,
-        target: target,
-    };
-    let checked = check_start(plan, work.len());
-    match checked {
-        Checked::Refused(why) => {
-            return Started::Refused { why: why };
-        }
-        Checked::Fit => {}
-    }
-    clear(work, 2 * row_bytes(plan, target.width));
-    Started::Fresh {
-        job: Job {
-            plan: plan,
-            accepted: 0,
-            taken: 0,
-            flag: false,
-        },
-    }
-}
 
 impl Job {
     // The record rules. Rules out: the rows accepted and the rows taken exchanged; a flag before the first row taken.

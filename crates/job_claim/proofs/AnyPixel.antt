@@ -26,7 +26,7 @@ use Rattle.rows.specs.Column.{growValue, value}
 use Rattle.rows.specs.Output.{ratio, byteDown, byteUp}
 use Rattle.rows.specs.Closed.{shareBefore, firstHalf, scaledByte, scaled}
 use Rattle.job_rules.specs.declared.Plan.{Plan}
-use Rattle.job_claim.specs.Rows.{sourceByte, mattedByte, scaledLane, rowOf, rowsOf, resizePlan, resized}
+use Rattle.job_claim.specs.Rows.{sourceByte, readByte, scaledLane, rowOf, rowsOf, resizePlan, resized}
 use Rattle.job_claim.specs.Trials.{pixel, AllZero, PixelTwice}
 
 -- ---- all 0
@@ -70,13 +70,13 @@ planOf l = resizePlan (sizeOf 1 1) l (sizeOf 2 1)
 
 -- ---- the row of an opaque pixel n, read from the bytes s
 module _ (l : PixelLayout) (s : ℕ → ℕ) (n : ℕ) (word : n < 2 ^ 32) (opaque : laneOf n 3 ≡ 255) (is : pixelOf (sourceByte (planOf l) s 0 0) ≡ n) where
-  matted-is : (k : ℕ) → mattedByte (planOf l) s k 0 0 ≡ laneOf n k
-  unfolding mattedByte
+  matted-is : (k : ℕ) → readByte (planOf l) s k 0 0 ≡ laneOf n k
+  unfolding readByte
   matted-is k = rw is (ap (λ (t : ℕ). laneOf t k) (argb-opaque n false opaque))
 
   lane-is : (x : ℕ) → scaledLane (planOf l) s 0 x ≡ laneOf n (x % 4)
   unfolding scaledLane
-  lane-is x = one-lane (mattedByte (planOf l) s (x % 4)) (x / 4) (rw (matted-is (x % 4)) (lane-byte n (x % 4))) ∙ matted-is (x % 4)
+  lane-is x = one-lane (readByte (planOf l) s (x % 4)) (x / 4) (rw (matted-is (x % 4)) (lane-byte n (x % 4))) ∙ matted-is (x % 4)
 
   place-is : (z : ℕ) → restoredPlace l (λ x. laneOf n (x % 4)) z ≡ laneOf n (placeOf l (z % 4))
   unfolding restoredPlace restoredPixel packedByte

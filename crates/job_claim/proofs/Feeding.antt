@@ -8,7 +8,7 @@ use native.Mathlib.Nat.{le-trans, mul-le-mul-left}
 use lib.ListN.{length, getD, drop}
 use lib.Seq.{getD-take, getD-drop, length-take-le}
 use borrow.Author.Tests.{le-leb, lt-leb, lt-ltb, le-ltb}
-use Rattle.pixels.specs.Sizes.{pixelLanes, rowBytes, halfValues, workValues, Fits}
+use Rattle.pixels.specs.Sizes.{rowBytes, halfValues, workValues, Fits}
 use Rattle.pixels_crop.specs.Crop.{pictureRow}
 use Rattle.rows_schedule.specs.Schedule.{used}
 use Rattle.rows_schedule.proofs.Crop.{Place, within, beside, place, inside, used-row, rows-le}
@@ -19,7 +19,7 @@ use Rattle.rows_laws.proofs.WorkRows.{rowIn-length, rowIn-rest}
 use Rattle.job_rules.specs.declared.Plan.{Plan}
 use Rattle.job_rules.specs.Rules.{lanesOf, R}
 use Rattle.job.specs.Calls.{scaleBy, valuesOf, rowAccepted, fed}
-use Rattle.job_claim.proofs.Reading.{cropValue, values-are}
+use Rattle.job_claim.proofs.Reading.{Shape, cropValue, values-are}
 
 -- what the work rows hold once k source rows were accepted and t rows taken
 abbrev pub Holds : Plan → (ℕ → ℕ) → ℕ → ℕ → List ℕ → Type 0
@@ -27,20 +27,20 @@ Holds p b k t work =
     Held (scaleBy p) (cropValue p b) (used (p .crop .y) (p .crop .height) k) t work
 
 -- ---- a row of the bytes lent
-module _ (rows : List ℕ) (w n i : ℕ) (here : rowBytes pixelLanes w * n ≤ length rows) (l : i < n) where
-  row-inside : rowBytes pixelLanes w * i + rowBytes pixelLanes w ≤ length rows
-  row-inside = omega (arith, mul-le-mul-left (rowBytes pixelLanes w) l)
+module _ (lanes : ℕ) (rows : List ℕ) (w n i : ℕ) (here : rowBytes lanes w * n ≤ length rows) (l : i < n) where
+  row-inside : rowBytes lanes w * i + rowBytes lanes w ≤ length rows
+  row-inside = omega (arith, mul-le-mul-left (rowBytes lanes w) l)
 
-  pub row-length : length (pictureRow pixelLanes rows w i) ≡ rowBytes pixelLanes w
+  pub row-length : length (pictureRow lanes rows w i) ≡ rowBytes lanes w
   unfolding pictureRow
-  row-length = length-take-le (rowBytes pixelLanes w) (drop (rowBytes pixelLanes w * i) rows) (simp lib.ListN.length-drop (omega (arith, row-inside)))
+  row-length = length-take-le (rowBytes lanes w) (drop (rowBytes lanes w * i) rows) (simp lib.ListN.length-drop (omega (arith, row-inside)))
 
-  pub row-byte : (z : ℕ) → z < rowBytes pixelLanes w → getD (pictureRow pixelLanes rows w i) z 0 ≡ getD rows (rowBytes pixelLanes w * i + z) 0
+  pub row-byte : (z : ℕ) → z < rowBytes lanes w → getD (pictureRow lanes rows w i) z 0 ≡ getD rows (rowBytes lanes w * i + z) 0
   unfolding pictureRow
-  row-byte z u = getD-take (rowBytes pixelLanes w) (drop (rowBytes pixelLanes w * i) rows) z 0 u ∙ getD-drop (rowBytes pixelLanes w * i) rows z 0
+  row-byte z u = getD-take (rowBytes lanes w) (drop (rowBytes lanes w * i) rows) z 0 u ∙ getD-drop (rowBytes lanes w * i) rows z 0
 
 -- ---- one source row
-module _ (p : Plan) (fits : Fits (p .source) (p .crop) (p .target)) where
+module _ (p : Plan) (shape : Shape p) (fits : Fits (p .source) (p .crop) (p .target)) where
   pub row-in : (row : List ℕ) (s : ℕ) (work : List ℕ) → p .crop .y ≤ s → s < p .crop .y + p .crop .height
       → rowAccepted p row s work ≡ rowIn (scaleBy p) (s - p .crop .y) (valuesOf p row) work
   unfolding rowAccepted
@@ -84,7 +84,7 @@ module _ (p : Plan) (fits : Fits (p .source) (p .crop) (p .target)) where
           let u : ℕ = used (p .crop .y) (p .crop .height) k in
           let e : k - p .crop .y ≡ u = omega arith in
           let at : p .crop .y + u ≡ k = used-row (p .crop .y) (p .crop .height) k a c in
-          let same = values-are p b row u fits long (λ z l. agrees z l ∙ ap (λ (s : ℕ). b (rowBytes (lanesOf p) (p .source .width) * s + z)) (sym at)) in
+          let same = values-are p shape b row u fits long (λ z l. agrees z l ∙ ap (λ (s : ℕ). b (rowBytes (lanesOf p) (p .source .width) * s + z)) (sym at)) in
           rw (row-in row k work a c, e, inside (p .crop .y) (p .crop .height) k a c)
           (held-in (scaleBy p) (cropValue p b) u t (valuesOf p row) work
           (since-le (p .crop .height) (p .target .height) u t (fits .crop-height) (fits .target-height .some) le) same held)
@@ -96,7 +96,7 @@ module _ (p : Plan) (fits : Fits (p .source) (p .crop) (p .target)) where
   fed-length rows k zero work room = refl
   fed-length rows k (suc c) work room =
       let h = fed-length rows k c work room in
-      row-length-kept (pictureRow pixelLanes rows (p .source .width) c) (k + c) (fed p rows k c work) (omega arith) ∙ h
+      row-length-kept (pictureRow (lanesOf p) rows (p .source .width) c) (k + c) (fed p rows k c work) (omega arith) ∙ h
 
   pub fed-rest : (rows : List ℕ) (k c : ℕ) (work : List ℕ) → workValues (lanesOf p) (p .target .width) ≤ length work
       → drop (workValues (lanesOf p) (p .target .width)) (fed p rows k c work) ≡ drop (workValues (lanesOf p) (p .target .width)) work
@@ -104,7 +104,7 @@ module _ (p : Plan) (fits : Fits (p .source) (p .crop) (p .target)) where
   fed-rest rows k zero work room = refl
   fed-rest rows k (suc c) work room =
       let h = fed-length rows k c work room in
-      row-rest (pictureRow pixelLanes rows (p .source .width) c) (k + c) (fed p rows k c work) (omega arith) ∙ fed-rest rows k c work room
+      row-rest (pictureRow (lanesOf p) rows (p .source .width) c) (k + c) (fed p rows k c work) (omega arith) ∙ fed-rest rows k c work room
 
   pub fed-held : (b : ℕ → ℕ) (rows : List ℕ) (k t c : ℕ) (work : List ℕ) → t ≤ R p k → rowBytes (lanesOf p) (p .source .width) * c ≤ length rows
       → ((z : ℕ) → z < rowBytes (lanesOf p) (p .source .width) * c → getD rows z 0 ≡ b (rowBytes (lanesOf p) (p .source .width) * k + z))
@@ -117,8 +117,8 @@ module _ (p : Plan) (fits : Fits (p .source) (p .crop) (p .target)) where
       let e' : c + k ≡ k + c = omega arith in
       let up = rows-le (p .crop .y) (p .crop .height) (p .target .height) (fits .crop-height) k c in
       let up' : R p k ≤ R p (k + c) = rw e' at up in
-      let less : rowBytes pixelLanes w * c ≤ length rows = omega arith in
+      let less : rowBytes (lanesOf p) w * c ≤ length rows = omega arith in
       let before = fed-held b rows k t c work le less (λ z l. agrees z (omega arith)) held in
       rw e
-      (row-held b (pictureRow pixelLanes rows w c) (k + c) t (fed p rows k c work) (le-trans le up') (row-length rows w (suc c) c here (omega arith))
-      (λ z l. row-byte rows w (suc c) c here (omega arith) z l ∙ agrees (rowBytes pixelLanes w * c + z) (omega arith) ∙ ap b (omega arith)) before)
+      (row-held b (pictureRow (lanesOf p) rows w c) (k + c) t (fed p rows k c work) (le-trans le up') (row-length (lanesOf p) rows w (suc c) c here (omega arith))
+      (λ z l. row-byte (lanesOf p) rows w (suc c) c here (omega arith) z l ∙ agrees (rowBytes (lanesOf p) w * c + z) (omega arith) ∙ ap b (omega arith)) before)

@@ -14,6 +14,9 @@ use Rattle.pixels_layout.specs.Layout.{placeOf, alphaLane, alphaAt}
 use Rattle.pixels_alpha.specs.Alpha.{someClear, hasAlpha}
 use Rattle.pixels_layout.proofs.Tabled.{place-lt}
 use Rattle.pixels_alpha.proofs.Flags.{clear-cong}
+use Rattle.rows_form.specs.declared.RowForm.{RowForm}
+use Rattle.rows_form.specs.declared.RowForm.the-variants.{Pixels, Plain}
+use Rattle.rows_form.specs.Form.{lanesIn, flagIn}
 use Rattle.job_claim.specs.Rows.{joined}
 
 -- ---- alphas, pixel after pixel
@@ -25,7 +28,7 @@ clear-append a n (suc k) =
     rw (e, clear-append a n k) (or-assoc (someClear a n) (someClear (λ i. a (n + i)) k) (not (eqb (a (n + k)) 255)))
 
 -- ---- the flag of bytes
-pub hasAlpha-none : (l : PixelLayout) (s : List ℕ) → hasAlpha l s 0 ≡ false
+hasAlpha-none : (l : PixelLayout) (s : List ℕ) → hasAlpha l s 0 ≡ false
 unfolding hasAlpha someClear
 hasAlpha-none l s = refl
 
@@ -40,7 +43,7 @@ module _ (l : PixelLayout) (a b : List ℕ) (n k : ℕ) (long : length a ≡ row
       let e : pixelLanes * (n + i) + placeOf l alphaLane ≡ length a + (pixelLanes * i + placeOf l alphaLane) = omega arith in
       ap (λ (z : ℕ). getD (a ++ b) z 0) e ∙ getD-append-add a b (pixelLanes * i + placeOf l alphaLane) 0
 
-  pub hasAlpha-append : hasAlpha l (a ++ b) (n + k) ≡ (hasAlpha l a n || hasAlpha l b k)
+  hasAlpha-append : hasAlpha l (a ++ b) (n + k) ≡ (hasAlpha l a n || hasAlpha l b k)
   unfolding hasAlpha
   hasAlpha-append =
       clear-append (alphaAt l (a ++ b)) n k
@@ -60,9 +63,19 @@ joined-length m [] same = omega arith
 joined-length m (row ∷ rows) same =
     omega (arith, length-append row (joined rows), same 0 (omega arith), joined-length m rows (λ y l. same (suc y) (omega arith)))
 
--- the flag with one more row of m pixels
-pub joined-flag : (l : PixelLayout) (rows : List (List ℕ)) (row : List ℕ) (m t : ℕ) → length (joined rows) ≡ rowBytes pixelLanes m * t
-    → hasAlpha l (joined (rows ++ (row ∷ []))) (m * suc t) ≡ (hasAlpha l (joined rows) (m * t) || hasAlpha l row m)
-joined-flag l rows row m t long =
+-- ---- the flag of either form: a plane's stays false
+pub flag-none : (form : RowForm) (s : List ℕ) → flagIn form s 0 ≡ false
+flag-none (Pixels layout) s = hasAlpha-none layout s
+flag-none (Plain lanes) s = refl
+
+-- with one more row of m pixels
+pub flag-append : (form : RowForm) (before row : List ℕ) (m t : ℕ) → length before ≡ rowBytes (lanesIn form) m * t
+    → flagIn form (before ++ row) (m * suc t) ≡ (flagIn form before (m * t) || flagIn form row m)
+flag-append (Pixels layout) before row m t long =
     let e : m * suc t ≡ m * t + m = omega arith in
-    rw (joined-append, e) (hasAlpha-append l (joined rows) row (m * t) m (omega arith))
+    rw e (hasAlpha-append layout before row (m * t) m (omega arith))
+flag-append (Plain lanes) before row m t long = refl
+
+pub joined-flag : (form : RowForm) (rows : List (List ℕ)) (row : List ℕ) (m t : ℕ) → length (joined rows) ≡ rowBytes (lanesIn form) m * t
+    → flagIn form (joined (rows ++ (row ∷ []))) (m * suc t) ≡ (flagIn form (joined rows) (m * t) || flagIn form row m)
+joined-flag form rows row m t long = rw joined-append (flag-append form (joined rows) row m t long)

@@ -11,25 +11,28 @@ use native.Mathlib.Numerals.{add-one}
 use lib.ListN.{length, getD, take, drop, replicate, length-append, length-take, length-drop, length-replicate, take-append-drop, List·getD-append}
 use lib.Seq.{getD-take, getD-append-add, getD-at, length-take-le, length-front, drop-append-le, drop-at}
 use Rattle.pixels.specs.Sizes.{rowBytes, halfValues, workValues}
-use Rattle.pixels_alpha.specs.Alpha.{hasAlpha}
+use Rattle.rows_form.specs.Form.{flagIn}
 use Rattle.rows_schedule.specs.Schedule.{used}
 use Rattle.rows_schedule.proofs.Crop.{rows-le, rows-none}
 use Rattle.rows_laws.proofs.Held.{held-start, held-same}
 use Rattle.job_rules.specs.declared.Plan.{Plan}
-use Rattle.job_rules.specs.Rules.{lanesOf, R, startNumber}
+use Rattle.job_rules.specs.Rules.{lanesOf, formOf, Formed, R, startNumber}
+use Rattle.job_rules.proofs.KindRules.{kind-kept, formed-fits}
 use Rattle.job.specs.declared.Job.{Job}
 use Rattle.job.specs.Record.{Rules}
 use Rattle.job.specs.Calls as calls
-use Rattle.job.specs.Calls.{scaleBy, mostRows, count, lentRows, moreAccepted, moreTaken, fed, rowTaken, workTaken, cleared}
+use Rattle.job.specs.Calls.{scaleBy, mostRows, count, lentRows, moreAccepted, moreTaken, fed, rowTaken, workTaken}
+use Rattle.job_start.specs.Start.{cleared}
+use Rattle.job_start.proofs.Starting.{StartWent, start-went}
 use Rattle.job.proofs.Counting.{counted-most, counted-low, counted-some}
-use Rattle.job.proofs.Views.{WholeRows, OfferTurned, OfferWent, offer-view, TakeTurned, TakeWent, take-view, StartWent, start-went}
+use Rattle.job.proofs.Views.{WholeRows, OfferTurned, OfferWent, offer-view, TakeTurned, TakeWent, take-view}
 use Rattle.job_claim.specs.Rows.{rowOf, joined}
 use Rattle.job_claim.specs.Claim.{RestStays}
 use Rattle.job_claim.specs.Calls.{Call, Offer, Take, Seen, Run, nothing, step, run, begun, seenOffer}
-use Rattle.job_claim.proofs.Reading.{cropValue}
+use Rattle.job_claim.proofs.Reading.{cropValue, shape-of}
 use Rattle.job_claim.proofs.Feeding.{Holds, fed-held, fed-length, fed-rest}
 use Rattle.job_claim.proofs.Taking.{row-is, left-holds, row-taken-length, left-length, left-rest}
-use Rattle.job_claim.proofs.Flagged.{joined-append, joined-flag, hasAlpha-none}
+use Rattle.job_claim.proofs.Flagged.{joined-append, joined-flag, flag-none}
 
 -- b goes on where the list of bytes ends
 abbrev pub Agrees : (ℕ → ℕ) → List ℕ → Type 0
@@ -50,7 +53,7 @@ pub record Inv (p : Plan) (s : Seen) (work : List ℕ) : Type 0 where
   pub out-bytes : length (joined (s .rows)) ≡ rowBytes (lanesOf p) (p .target .width) * s .taken
   pub held : (b : ℕ → ℕ) → Agrees b (s .source) → Holds p b (s .accepted) (s .taken) work
   pub handed : (b : ℕ → ℕ) → Agrees b (s .source) → (y : ℕ) → y < s .taken → getD (s .rows) y [] ≡ rowOf p b y
-  pub flagged : s .flag ≡ hasAlpha (p .layout) (joined (s .rows)) (p .target .width * s .taken)
+  pub flagged : s .flag ≡ flagIn (formOf p) (joined (s .rows)) (p .target .width * s .taken)
 
 -- a run that a list of calls led to, from a start that was lent the work values `given`
 pub record Kept (p : Plan) (given : List ℕ) (r : Run) : Type 0 where
@@ -139,6 +142,7 @@ offer-rules j n q whole a b =
       rows = omega (arith, q .rows);
       low = rw e at low;
       high = le-trans (q .high) (rw e2 at up);
+      kind-fits = q .kind-fits;
       flagless = q .flagless;
     }
 
@@ -148,6 +152,7 @@ take-rules j row q l = record {
   rows = q .rows;
   low = omega (arith, q .low);
   high = omega arith;
+  kind-fits = kind-kept (j .plan .kind) (j .plan .layout) (j .plan .lanes) (j .flag) row (j .plan .target .width) (q .kind-fits);
   flagless = λ e. absurd (omega arith);
 }
 
@@ -155,7 +160,7 @@ take-rules j row q l = record {
 none-seen : (p : Plan) (s : Seen) (rows : List ℕ) (c : ℕ) → c ≡ 0 → seenOffer p s rows c ≡ s
 none-seen p s rows c e =
     let a : s .accepted + c ≡ s .accepted = omega arith in
-    let z : rowBytes (lanesOf p) (p .source .width) * c ≡ 0 = omega (arith, ap (λ (t : ℕ). p .source .width * t) e) in
+    let z : rowBytes (lanesOf p) (p .source .width) * c ≡ 0 = ap (λ (t : ℕ). rowBytes (lanesOf p) (p .source .width) * t) e ∙ mul-zero (rowBytes (lanesOf p) (p .source .width)) in
     rw (a, z, append-nil (s .source)) refl
 
 module _ (p : Plan) (s : Seen) (work : List ℕ) (v : Inv p s work) where
@@ -180,7 +185,8 @@ module _ (p : Plan) (s : Seen) (work : List ℕ) (v : Inv p s work) where
         let n : ℕ = count (jobAt p s) (length rows) in
         let w : ℕ = rowBytes (lanesOf p) (p .source .width) in
         let here = count-bytes (jobAt p s) (length rows) (o .whole) in
-        let len : length (fed p rows (s .accepted) n (take lent work)) ≡ length (take lent work) = fed-length p (o .rules .sizes) rows (s .accepted) n (take lent work) (o .room) in
+        let shape = shape-of p (s .accepted) (s .taken) (s .flag) (o .rules) in
+        let len : length (fed p rows (s .accepted) n (take lent work)) ≡ length (take lent work) = fed-length p shape (o .rules .sizes) rows (s .accepted) n (take lent work) (o .room) in
         record {
           rules = offer-rules (jobAt p s) (length rows) (o .rules) (o .whole) (o .none-ready) (o .remain);
           room = rw (length-append, len) (omega (arith, o .room));
@@ -195,7 +201,7 @@ module _ (p : Plan) (s : Seen) (work : List ℕ) (v : Inv p s work) where
               sym (getD-take (w * n) rows z 0 l)
               ∙ agrees-right b (s .source) (take (w * n) rows) agree z (rw (length-take-le (w * n) rows here) l)
               ∙ ap (λ (t : ℕ). b (t + z)) (v .bytes) in
-              let after = fed-held p (o .rules .sizes) b rows (s .accepted) (s .taken) n (take lent work) (o .rules .high) here same before in
+              let after = fed-held p shape (o .rules .sizes) b rows (s .accepted) (s .taken) n (take lent work) (o .rules .high) here same before in
               held-back p b (s .accepted + n) (s .taken) (fed p rows (s .accepted) n (take lent work)) (drop lent work) (rw len (o .room)) after;
           handed = λ b agree. v .handed b (agrees-left b (s .source) (take (w * n) rows) agree);
           flagged = v .flagged;
@@ -212,7 +218,7 @@ module _ (p : Plan) (s : Seen) (work : List ℕ) (v : Inv p s work) where
       source = s .source;
       taken = s .taken + 1;
       rows = s .rows ++ (row ∷ []);
-      flag = s .flag || hasAlpha (p .layout) row (p .target .width);
+      flag = s .flag || flagIn (formOf p) row (p .target .width);
     }
 
     pub take-stays : TakeTurned (jobAt p s) out (take lent work) → step p (runAt p s work) (Take out lent) ≡ runAt p s work
@@ -227,6 +233,7 @@ module _ (p : Plan) (s : Seen) (work : List ℕ) (v : Inv p s work) where
     take-kept o =
         let j : Job = jobAt p s in
         let m : ℕ = p .target .width in
+        let same = shape-of p (s .accepted) (s .taken) (s .flag) (o .rules) .lanes-form in
         let len : length (workTaken j (take lent work)) ≡ length (take lent work) = left-length j (take lent work) (o .room) in
         let lent-held : (b : ℕ → ℕ) → Agrees b (s .source) → Holds p b (s .accepted) (s .taken) (take lent work) =
         λ b agree. held-lent p b (s .accepted) (s .taken) lent work (o .room) (v .held b agree) in
@@ -245,7 +252,7 @@ module _ (p : Plan) (s : Seen) (work : List ℕ) (v : Inv p s work) where
               (λ e. rw e (getD-at (s .rows) row [] [] (s .taken) (v .outs) ∙ row-is j (o .rules) (o .ready) b (take lent work) (lent-held b agree)))
               (λ before. List·getD-append (s .rows) (row ∷ []) [] y (rw (v .outs) before) ∙ v .handed b agree y before)
               (eq-or-lt-of-le (le-of-suc-le-suc (rw add-one at l)));
-          flagged = rw (add-one (s .taken), joined-flag (p .layout) (s .rows) row m (s .taken) (v .out-bytes)) (ap (λ (f : Bool). f || hasAlpha (p .layout) row m) (v .flagged));
+          flagged = rw (add-one (s .taken), joined-flag (formOf p) (s .rows) row m (s .taken) (rw same (v .out-bytes))) (ap (λ (f : Bool). f || flagIn (formOf p) row m) (v .flagged));
         }
 
   -- ---- any call
@@ -256,9 +263,10 @@ module _ (p : Plan) (s : Seen) (work : List ℕ) (v : Inv p s work) where
       by (inl o) = record { seen = s; work = work; is = offer-stays rows lent o; inv = v; rest = rest }
       by (inr o) =
           let sizes = o .rules .sizes in
+          let shape = shape-of p (s .accepted) (s .taken) (s .flag) (o .rules) in
           let n : ℕ = count (jobAt p s) (length rows) in
-          let len = fed-length p sizes rows (s .accepted) n (take lent work) (o .room) in
-          let same = fed-rest p sizes rows (s .accepted) n (take lent work) (o .room) in
+          let len = fed-length p shape sizes rows (s .accepted) n (take lent work) (o .room) in
+          let same = fed-rest p shape sizes rows (s .accepted) n (take lent work) (o .room) in
           record { seen = _; work = _; is = offer-leads rows lent o; inv = offer-kept rows lent o; rest = rest-on p given work _ lent (o .room) len same rest }
   step-kept given rest (Take out lent) = by (take-view (jobAt p s) out (take lent work))
     where
@@ -276,9 +284,9 @@ run-kept p given [] r k = k
 run-kept p given (call ∷ calls) r k = run-kept p given calls (step p r call) (rw (k .is) (step-kept p (k .seen) (k .work) (k .inv) given (k .rest) call))
 
 -- ---- a fresh job
-pub begun-inv : (p : Plan) (work : List ℕ) → StartWent p work → Inv p nothing (cleared p work)
+pub begun-inv : (p : Plan) (work : List ℕ) → Formed p → StartWent p work → Inv p nothing (cleared p work)
 unfolding joined
-begun-inv p work o =
+begun-inv p work formed o =
     let none : R p 0 ≡ 0 = rows-none (p .crop .y) (p .crop .height) (p .target .height) (o .sizes .crop-height) in
     let unused : used (p .crop .y) (p .crop .height) 0 ≡ 0 = omega arith in
     let both : workValues (lanesOf p) (p .target .width) ≡ halfValues (lanesOf p) (p .target .width) + halfValues (lanesOf p) (p .target .width) = omega arith in
@@ -288,6 +296,7 @@ begun-inv p work o =
         rows = omega arith;
         low = omega (arith, none);
         high = omega arith;
+        kind-fits = formed-fits p formed (o .lane-count);
         flagless = λ q. refl;
       };
       room = rw (length-append, length-replicate) (omega arith);
@@ -296,7 +305,7 @@ begun-inv p work o =
       out-bytes = omega arith;
       held = λ b agree. rw (unused, both) (held-start (scaleBy p) (cropValue p b) (drop (halfValues (lanesOf p) (p .target .width) + halfValues (lanesOf p) (p .target .width)) work));
       handed = λ b agree y l. absurd (omega arith);
-      flagged = rw mul-zero (sym (hasAlpha-none (p .layout) []));
+      flagged = rw mul-zero (sym (flag-none (formOf p) []));
     }
 
 begun-rest : (p : Plan) (work : List ℕ) → workValues (lanesOf p) (p .target .width) ≤ length work → RestStays p work (cleared p work)
@@ -307,13 +316,13 @@ begun-rest p work room =
       as-given = drop-at (replicate w 0) (drop w work) w (length-replicate w 0);
     }
 
-pub begun-kept : (p : Plan) (work : List ℕ) → startNumber p (length work) ≡ 0 → Kept p work (begun p work)
-begun-kept p work e =
+pub begun-kept : (p : Plan) (work : List ℕ) → Formed p → startNumber p (length work) ≡ 0 → Kept p work (begun p work)
+begun-kept p work formed e =
     let o = start-went p work e in
     record {
       seen = nothing;
       work = cleared p work;
       is = ap (λ (w : List ℕ). runAt p nothing w) (o .work-after);
-      inv = begun-inv p work o;
+      inv = begun-inv p work formed o;
       rest = begun-rest p work (o .room);
     }

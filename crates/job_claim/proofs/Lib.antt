@@ -7,5 +7,6 @@ pub mod TurnedAway
 pub mod Theorem
 pub mod Reaching
 pub mod Whole
+pub mod ByKind
 pub mod Trials
 pub mod AnyPixel

@@ -5,21 +5,23 @@ use mathlib.Core.Path.{_≡_, refl, _∙_, ap}
 use mathlib.Core.Logic.{_⊎_, inl, inr}
 use mathlib.Core.List.{List, [], _∷_, _++_}
 use native.Mathlib.Omega.{arith}
-use native.Mathlib.Nat.{div-add-mod}
+use native.Mathlib.Nat.{div-add-mod, mul-le-mul}
 use lib.ListN.{length, take, drop, replicate, length-replicate}
 use lib.Seq.{take-length, take-add, take-all}
 use Rattle.arithmetic.proofs.Orders.{le-or-lt}
 use Rattle.arithmetic.proofs.Quotients.{div-is}
-use Rattle.pixels.specs.Sizes.{pixelLanes, rowBytes, pictureBytes}
+use Rattle.pixels.specs.Sizes.{rowBytes, pictureBytes}
 use Rattle.pixels_crop.specs.Crop.{pictureRow}
 use Rattle.rows_schedule.proofs.Crop.{rows-most, rows-all}
 use Rattle.job_rules.specs.declared.Plan.{Plan}
-use Rattle.job_rules.specs.Rules.{lanesOf, R, startNumber}
+use Rattle.job_rules.specs.Rules.{lanesOf, Formed, R, startNumber}
 use Rattle.job.specs.Calls.{count, lentRows}
 use Rattle.job.proofs.Views
 use Rattle.job.proofs.Views.{WholeRows}
 use Rattle.job_claim.specs.Calls.{Call, Offer, Take, Seen, Run, nothing, step, run, offerNumber, takeNumber, NoneRefused}
 use Rattle.job_claim.specs.Claim.{Reached}
+use Rattle.job_start.proofs.Starting.{start-went}
+use Rattle.job_claim.proofs.Reading.{shape-of}
 use Rattle.job_claim.proofs.Feeding.{row-length}
 use Rattle.job_claim.proofs.Invariant.{jobAt, runAt, Inv, offer-leads, offer-kept, take-leads, take-kept, count-some, count-most, begun-inv}
 
@@ -46,7 +48,7 @@ one-row w pos = div-is w (omega arith) (omega arith)
 no-rest : (w : ℕ) → 0 < w → w % w ≡ 0
 no-rest w pos = omega (arith, div-add-mod w w, ap (λ (x : ℕ). w * x) (one-row w pos))
 
-module _ (p : Plan) (pixels : List ℕ) (long : length pixels ≡ pictureBytes pixelLanes (p .source .width) (p .source .height)) where
+module _ (p : Plan) (pixels : List ℕ) (long : length pixels ≡ pictureBytes (lanesOf p) (p .source .width) (p .source .height)) where
   left : Seen → ℕ
   left s = p .source .height - s .accepted + (p .target .height - s .taken)
 
@@ -55,8 +57,8 @@ module _ (p : Plan) (pixels : List ℕ) (long : length pixels ≡ pictureBytes p
   First s = s .source ≡ take (rowBytes (lanesOf p) (p .source .width) * s .accepted) pixels
 
   -- one row more
-  next : (k : ℕ) → length (pictureRow pixelLanes pixels (p .source .width) k) ≡ rowBytes (lanesOf p) (p .source .width)
-      → take (rowBytes (lanesOf p) (p .source .width) * k) pixels ++ take (rowBytes (lanesOf p) (p .source .width) * 1) (pictureRow pixelLanes pixels (p .source .width) k) ≡ take (rowBytes (lanesOf p) (p .source .width) * (k + 1)) pixels
+  next : (k : ℕ) → length (pictureRow (lanesOf p) pixels (p .source .width) k) ≡ rowBytes (lanesOf p) (p .source .width)
+      → take (rowBytes (lanesOf p) (p .source .width) * k) pixels ++ take (rowBytes (lanesOf p) (p .source .width) * 1) (pictureRow (lanesOf p) pixels (p .source .width) k) ≡ take (rowBytes (lanesOf p) (p .source .width) * (k + 1)) pixels
   unfolding pictureRow
   next k len =
       let w : ℕ = rowBytes (lanesOf p) (p .source .width) in
@@ -95,9 +97,10 @@ module _ (p : Plan) (pixels : List ℕ) (long : length pixels ≡ pictureBytes p
       unfolding left First
       by-offer a b =
           let w : ℕ = rowBytes (lanesOf p) (p .source .width) in
-          let row : List ℕ = pictureRow pixelLanes pixels (p .source .width) (s .accepted) in
-          let some : 0 < w = omega (arith, v .rules .sizes .source-width .some) in
-          let len : length row ≡ w = row-length pixels (p .source .width) (p .source .height) (s .accepted) (omega arith) b in
+          let row : List ℕ = pictureRow (lanesOf p) pixels (p .source .width) (s .accepted) in
+          let some-lane = shape-of p (s .accepted) (s .taken) (s .flag) (v .rules) .lane-count .some in
+          let some : 0 < w = mul-le-mul {n₁ = 1} {m₁ = 1} {n₂ = lanesOf p} {m₂ = p .source .width} some-lane (v .rules .sizes .source-width .some) in
+          let len : length row ≡ w = row-length (lanesOf p) pixels (p .source .width) (p .source .height) (s .accepted) (omega arith) b in
           let whole : WholeRows p (length row) = record { some = omega arith; whole = rw len (no-rest w some) } in
           let one : lentRows p (length row) ≡ 1 = rw len (one-row w some) in
           let goes = Views.offer-goes (jobAt p s) (length row) (length (take (length work) work)) (v .rules) whole (rw (take-length work) (v .room)) a b in
@@ -118,12 +121,12 @@ module _ (p : Plan) (pixels : List ℕ) (long : length pixels ≡ pictureBytes p
       by ih (inl a) (inr b) = by-offer s work v first n ih e a b
       by ih (inl a) (inl b) = arrived s work v first a b
 
-pub some-list : (p : Plan) (work : List ℕ) → startNumber p (length work) ≡ 0 → (pixels : List ℕ) → length pixels ≡ pictureBytes pixelLanes (p .source .width) (p .source .height)
+pub some-list : (p : Plan) (work : List ℕ) → Formed p → startNumber p (length work) ≡ 0 → (pixels : List ℕ) → length pixels ≡ pictureBytes (lanesOf p) (p .source .width) (p .source .height)
     → (calls : List Call) × Reached p work pixels calls
 unfolding left First
-some-list p work e pixels long =
-    let o = Views.start-went p work e in
-    let w = way p pixels long _ nothing _ (begun-inv p work o) (ap (λ (n : ℕ). take n pixels) (let q : 0 ≡ rowBytes (lanesOf p) (p .source .width) * 0 = omega arith in q)) refl in (
+some-list p work formed e pixels long =
+    let o = start-went p work e in
+    let w = way p pixels long _ nothing _ (begun-inv p work formed o) (ap (λ (n : ℕ). take n pixels) (let q : 0 ≡ rowBytes (lanesOf p) (p .source .width) * 0 = omega arith in q)) refl in (
       w .calls,
       record {
         none-refused = rw (o .work-after) (w .none-refused);

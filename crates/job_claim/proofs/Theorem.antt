@@ -11,7 +11,7 @@ use Rattle.arithmetic.proofs.Orders.{le-or-lt}
 use Rattle.pixels.specs.Sizes.{rowBytes}
 use Rattle.rows_schedule.proofs.Crop.{rows-most}
 use Rattle.job_rules.specs.declared.Plan.{Plan}
-use Rattle.job_rules.specs.Rules.{lanesOf, R}
+use Rattle.job_rules.specs.Rules.{lanesOf, Formed, R}
 use Rattle.job_rules.proofs.Rules.{rules-good}
 use Rattle.job.specs.declared.Job.{Job}
 use Rattle.job.specs.Record.{readyOf}
@@ -23,10 +23,9 @@ use Rattle.job.proofs.Views.{WholeRows, TakeWent, OfferWent}
 use Rattle.job_claim.specs.Rows.{rowOf}
 use Rattle.job_claim.specs.Calls.{Seen, Run, begun, offerNumber, offerRows, takeNumber}
 use Rattle.job_claim.specs.Claim.{RightTake, RightOffer, Ready, Smallest, RestStays, Claim, Demand3}
-use Rattle.job_claim.proofs.Taking.{alpha-near, colour-near}
 use Rattle.job_claim.proofs.Invariant.{jobAt, runAt, Inv, run-kept, begun-kept, take-leads, take-kept, count-some, count-most, count-low}
 use Rattle.job_claim.proofs.TurnedAway.{offer-three, offer-five, offer-same, take-four, take-five, take-same}
-use Rattle.job_claim.proofs.Whole.{seen-whole, seen-whole-flag}
+use Rattle.job_claim.proofs.ByKind.{picture-alpha, picture-colour, plane-byte, picture-whole, picture-flag}
 use Rattle.job_claim.proofs.Reaching.{some-list}
 
 -- ---- the next call, by what was counted
@@ -142,8 +141,8 @@ ready-told p s work v =
     ready-of p (readyOf (jobAt p s)) s work v (omega (arith, told, v .rules .high))
 
 -- ---- the claim of whatever keeps the invariant
-claimed : (p : Plan) (given : List ℕ) (s : Seen) (work : List ℕ) → Inv p s work → RestStays p given work → Claim p given (runAt p s work)
-claimed p given s work v rest =
+claimed : (p : Plan) (given : List ℕ) (s : Seen) (work : List ℕ) → Formed p → Inv p s work → RestStays p given work → Claim p given (runAt p s work)
+claimed p given s work formed v rest =
     let bytes : ℕ → ℕ = λ i. getD (s .source) i 0 in
     let top : R p (s .accepted) ≤ p .target .height = rows-most (p .crop .y) (p .crop .height) (p .target .height) (v .rules .sizes .crop-height) (s .accepted) in
     let row-of : (y : ℕ) → y < s .taken → getD (s .rows) y [] ≡ rowOf p (λ i. getD (s .source) i 0) y = λ y l. v .handed (λ i. getD (s .source) i 0) (λ i h. refl) y l in
@@ -174,17 +173,18 @@ claimed p given s work v rest =
       handed = v .outs;
       contents = row-of;
       flag = v .flagged;
-      near-alpha = λ premise y l i inside. rw (row-of y l) (alpha-near p bytes y i inside (v .rules .sizes) (omega (arith, v .rules .high)) premise);
-      near-colour = λ premise y l i inside. rw (row-of y l) (colour-near p bytes y i inside (v .rules .sizes) (omega (arith, v .rules .high)) premise);
-      whole = seen-whole p s work v;
-      whole-flag = seen-whole-flag p s work v;
+      near-alpha = λ kind premise y l i inside. rw (row-of y l) (picture-alpha p formed bytes y i inside (v .rules .sizes) (omega (arith, v .rules .high)) premise kind);
+      near-colour = λ kind premise y l i inside. rw (row-of y l) (picture-colour p formed bytes y i inside (v .rules .sizes) (omega (arith, v .rules .high)) premise kind);
+      near-plane = λ kind premise y l i inside. rw (row-of y l) (plane-byte p formed bytes y i inside (v .rules .sizes) (omega (arith, v .rules .high)) premise kind);
+      whole = picture-whole p formed s work v;
+      whole-flag = picture-flag p formed s work v;
     }
 
 -- DEMAND 3, an end in itself
 pub demand-3 : Demand3
 demand-3 = record {
-  every-list = λ p work accepted calls.
-      let k = run-kept p work calls (begun p work) (begun-kept p work accepted) in
-      rw (k .is) (claimed p work (k .seen) (k .work) (k .inv) (k .rest));
+  every-list = λ p work formed accepted calls.
+      let k = run-kept p work calls (begun p work) (begun-kept p work formed accepted) in
+      rw (k .is) (claimed p work (k .seen) (k .work) formed (k .inv) (k .rest));
   some-list = some-list;
 }

@@ -15,9 +15,11 @@ use Rattle.arithmetic.specs.Weight.{span}
 use Rattle.arithmetic.proofs.Tables.{length-tabulate, tabulate-cong}
 use Rattle.pixels.specs.declared.Dimensions.{Dimensions}
 use Rattle.pixels.specs.declared.Rect.{Rect}
+use Rattle.pixels_layout.specs.declared.PixelLayout.{PixelLayout}
 use Rattle.pixels.specs.Sizes.{pixelLanes, rowBytes, pictureBytes, halfValues, sizeOf, Fits}
 use Rattle.pixels_layout.specs.Layout.{placeOf}
 use Rattle.pixels_layout.specs.Lanes.{restoredPlace}
+use Rattle.rows_form.specs.Form.{placeOut}
 use Rattle.pixels_alpha.specs.Alpha.{hasAlpha}
 use Rattle.pixels_crop.specs.Crop.{windowOf, pictureRow, croppedRows, cropped}
 use Rattle.pixels_layout.proofs.Tabled.{place-lt}
@@ -28,8 +30,8 @@ use Rattle.rows.specs.Column.{value}
 use Rattle.rows.specs.Closed.{scaled}
 use Rattle.rows_laws.proofs.Reach.{scaledByte-same}
 use Rattle.job_rules.specs.declared.Plan.{Plan}
-use Rattle.job_rules.specs.Rules.{lanesOf}
-use Rattle.job_claim.specs.Rows.{sourceByte, mattedByte, scaledLane, rowOf, joined, rowsOf, resizePlan, resized, resizedFlag}
+use Rattle.job_rules.specs.Rules.{lanesOf, formOf, planOf}
+use Rattle.job_claim.specs.Rows.{sourceByte, readByte, scaledLane, rowOf, joined, rowsOf, resizePlan, resized, resizedFlag}
 use Rattle.job_claim.specs.Calls.{Seen}
 use Rattle.arithmetic.proofs.Mattes.{pixel-cong}
 use Rattle.pixels_layout.proofs.Matted.{restored-cong}
@@ -55,7 +57,7 @@ module _ (source : Dimensions) (crop : Rect) (target : Dimensions) (pixels : Lis
     here = omega arith
 
     inside : rowBytes pixelLanes (crop .x + crop .width) ≤ length (pictureRow pixelLanes pixels (source .width) (crop .y + c))
-    inside = rw (row-length pixels (source .width) (crop .y + crop .height) (crop .y + c) long here) (mul-le-mul-left pixelLanes (fits .right))
+    inside = rw (row-length pixelLanes pixels (source .width) (crop .y + crop .height) (crop .y + c) long here) (mul-le-mul-left pixelLanes (fits .right))
 
     part-length : length (cropRow pixels (source .width) crop c) ≡ rowBytes pixelLanes (crop .width)
     part-length = window-length pixelLanes (pictureRow pixelLanes pixels (source .width) (crop .y + c)) (crop .x) (crop .width) inside
@@ -63,7 +65,7 @@ module _ (source : Dimensions) (crop : Rect) (target : Dimensions) (pixels : Lis
     part-byte : (z : ℕ) → z < rowBytes pixelLanes (crop .width) → getD (cropRow pixels (source .width) crop c) z 0 ≡ getD pixels (cropPlace (source .width) crop c z) 0
     part-byte z l =
         window-byte pixelLanes (pictureRow pixelLanes pixels (source .width) (crop .y + c)) (crop .x) (crop .width) inside z l
-        ∙ row-byte pixels (source .width) (crop .y + crop .height) (crop .y + c) long here (rowBytes pixelLanes (crop .x) + z) (omega (arith, fits .right))
+        ∙ row-byte pixelLanes pixels (source .width) (crop .y + crop .height) (crop .y + c) long here (rowBytes pixelLanes (crop .x) + z) (omega (arith, fits .right))
 
   -- the first n rows of the crop
   parts-length : (n : ℕ) → n ≤ crop .height → length (croppedRows pixels (source .width) crop n) ≡ rowBytes pixelLanes (crop .width) * n
@@ -106,7 +108,7 @@ scaled-cong n m h g p q j y some within below same =
 -- ---- rows one after another
 pub rowOf-length : (p : Plan) (b : ℕ → ℕ) (y : ℕ) → length (rowOf p b y) ≡ rowBytes (lanesOf p) (p .target .width)
 unfolding rowOf
-rowOf-length p b y = length-tabulate (restoredPlace (p .layout) (scaledLane p b y)) (rowBytes (lanesOf p) (p .target .width))
+rowOf-length p b y = length-tabulate (placeOut (formOf p) (scaledLane p b y)) (rowBytes (lanesOf p) (p .target .width))
 
 pub rowsOf-cong : (p q : Plan) (b d : ℕ → ℕ) (n : ℕ) → ((y : ℕ) → y < n → rowOf p b y ≡ rowOf q d y) → rowsOf p b n ≡ rowsOf q d n
 unfolding rowsOf
@@ -135,7 +137,10 @@ sourceOf pixels i = getD pixels i 0
 abbrev pub croppedOf : Plan → List ℕ → ℕ → ℕ
 croppedOf p pixels i = getD (cropped (p .source) (p .crop) pixels) i 0
 
-module _ (p : Plan) (pixels : List ℕ) (fits : Fits (p .source) (p .crop) (p .target)) (long : pictureBytes pixelLanes (p .source .width) (p .crop .y + p .crop .height) ≤ length pixels) where
+module _ (source : Dimensions) (layout : PixelLayout) (crop : Rect) (target : Dimensions) (pixels : List ℕ) (fits : Fits source crop target) (long : pictureBytes pixelLanes (source .width) (crop .y + crop .height) ≤ length pixels) where
+  abbrev p : Plan
+  p = planOf source layout crop target
+
   same-byte : (c i k : ℕ) → c < p .crop .height → i < p .crop .width → k < pixelLanes
       → sourceByte p (sourceOf pixels) c i k ≡ sourceByte (wholePlan p) (croppedOf p pixels) c i k
   same-byte c i k l u v =
@@ -146,10 +151,10 @@ module _ (p : Plan) (pixels : List ℕ) (fits : Fits (p .source) (p .crop) (p .t
       rw (at, at-row, at-column)
       (sym (cropped-byte (p .source) (p .crop) (p .target) pixels fits long c (pixelLanes * i + placeOf (p .layout) k) l (omega arith)))
 
-  pub matted-same : (k c i : ℕ) → c < p .crop .height → i < p .crop .width
-      → mattedByte p (sourceOf pixels) k c i ≡ mattedByte (wholePlan p) (croppedOf p pixels) k c i
-  unfolding mattedByte
-  matted-same k c i l u =
+  pub read-same : (k c i : ℕ) → c < p .crop .height → i < p .crop .width
+      → readByte p (sourceOf pixels) k c i ≡ readByte (wholePlan p) (croppedOf p pixels) k c i
+  unfolding readByte
+  read-same k c i l u =
       ap (λ (t : ℕ). laneOf (multArgb t false) k)
       (pixel-cong (sourceByte p (sourceOf pixels) c i) (sourceByte (wholePlan p) (croppedOf p pixels) c i) (λ k' v. same-byte c i k' l u v))
 
@@ -158,8 +163,8 @@ module _ (p : Plan) (pixels : List ℕ) (fits : Fits (p .source) (p .crop) (p .t
   unfolding scaledLane
   lane-same y x l u =
       scaled-cong (p .crop .width) (p .target .width) (p .crop .height) (p .target .height)
-      (mattedByte p (sourceOf pixels) (x % pixelLanes)) (mattedByte (wholePlan p) (croppedOf p pixels) (x % pixelLanes)) (x / pixelLanes) y
-      (fits .crop-height) (omega arith) l (λ c i a b. matted-same (x % pixelLanes) c i a b)
+      (readByte p (sourceOf pixels) (x % pixelLanes)) (readByte (wholePlan p) (croppedOf p pixels) (x % pixelLanes)) (x / pixelLanes) y
+      (fits .crop-height) (omega arith) l (λ c i a b. read-same (x % pixelLanes) c i a b)
 
   pub row-same : (y : ℕ) → y < p .target .height → rowOf p (sourceOf pixels) y ≡ rowOf (wholePlan p) (croppedOf p pixels) y
   unfolding rowOf
@@ -200,19 +205,23 @@ rows-reach top h g k ph pg all =
         omega (arith, needed-some h g (g - 1) ph pg)
 
 -- ---- at the end of a list of calls, from what was counted, whatever bytes may follow the accepted ones
-module _ (p : Plan) (s : Seen) (work : List ℕ) (v : Inv p s work) (all-taken : s .taken ≡ p .target .height) (more : List ℕ) where
-  long : pictureBytes pixelLanes (p .source .width) (p .crop .y + p .crop .height) ≤ length (s .source ++ more)
+module _ (source : Dimensions) (layout : PixelLayout) (crop : Rect) (target : Dimensions) (s : Seen) (work : List ℕ) (v : Inv (planOf source layout crop target) s work) (all-taken : s .taken ≡ target .height)
+    (more : List ℕ) where
+  abbrev job : Plan
+  job = planOf source layout crop target
+
+  long : pictureBytes pixelLanes (source .width) (crop .y + crop .height) ≤ length (s .source ++ more)
   long =
       let sizes = v .rules .sizes in
-      let reach = rows-reach (p .crop .y) (p .crop .height) (p .target .height) (s .accepted) (sizes .crop-height) (sizes .target-height .some) (omega (arith, v .rules .high)) in
-      omega (arith, length-append (s .source) more, v .bytes, mul-le-mul-left (rowBytes pixelLanes (p .source .width)) reach)
+      let reach = rows-reach (crop .y) (crop .height) (target .height) (s .accepted) (sizes .crop-height) (sizes .target-height .some) (omega (arith, v .rules .high)) in
+      omega (arith, length-append (s .source) more, v .bytes, mul-le-mul-left (rowBytes pixelLanes (source .width)) reach)
 
-  rows-are : (y : ℕ) → y < p .target .height → getD (s .rows) y [] ≡ rowOf p (λ i. getD (s .source ++ more) i 0) y
+  rows-are : (y : ℕ) → y < target .height → getD (s .rows) y [] ≡ rowOf job (λ i. getD (s .source ++ more) i 0) y
   rows-are y l = v .handed (λ i. getD (s .source ++ more) i 0) (λ i u. sym (List·getD-append (s .source) more 0 i u)) y (omega arith)
 
-  pub seen-whole : joined (s .rows) ≡ resized (sizeOf (p .crop .width) (p .crop .height)) (p .layout) (p .target) (cropped (p .source) (p .crop) (s .source ++ more))
-  seen-whole = crop-then-resize p (s .source ++ more) (v .rules .sizes) long (s .rows) (v .outs ∙ all-taken) rows-are
+  pub seen-whole : joined (s .rows) ≡ resized (sizeOf (crop .width) (crop .height)) layout target (cropped source crop (s .source ++ more))
+  seen-whole = crop-then-resize source layout crop target (s .source ++ more) (v .rules .sizes) long (s .rows) (v .outs ∙ all-taken) rows-are
 
-  pub seen-whole-flag : s .flag ≡ resizedFlag (sizeOf (p .crop .width) (p .crop .height)) (p .layout) (p .target) (cropped (p .source) (p .crop) (s .source ++ more))
+  pub seen-whole-flag : s .flag ≡ resizedFlag (sizeOf (crop .width) (crop .height)) layout target (cropped source crop (s .source ++ more))
   seen-whole-flag =
-      crop-then-resize-flag p (s .source ++ more) (v .rules .sizes) long (s .rows) (v .outs ∙ all-taken) rows-are (s .flag) (rw all-taken at (v .flagged))
+      crop-then-resize-flag source layout crop target (s .source ++ more) (v .rules .sizes) long (s .rows) (v .outs ∙ all-taken) rows-are (s .flag) (rw all-taken at (v .flagged))

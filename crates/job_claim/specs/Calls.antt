@@ -12,6 +12,7 @@ use Rattle.job_rules.specs.Rules.{lanesOf}
 use Rattle.job.specs.declared.Job.{Job}
 use Rattle.job.specs.Record.{fresh}
 use Rattle.job.specs.Calls as job
+use Rattle.job_start.specs.Start.{startWork}
 
 -- An offer with its bytes, or a take with its output buffer; and how many of the work values are lent, all of them or a beginning. Bytes are numbers below
 -- 256; the claim holds of any numbers.
@@ -95,7 +96,7 @@ run p r (call ∷ calls) = run p (step p r call) calls
 
 -- "A fresh job is the record that an accepting start returned, with the work rows as start left them"
 abbrev pub begun : Plan → List ℕ → Run
-begun p work = record { job = fresh p; work = job.startWork p work; seen = nothing }
+begun p work = record { job = fresh p; work = startWork p work; seen = nothing }
 
 -- no call of the list is turned away
 abbrev pub NoneRefused : Plan → Run → List Call → Type 0

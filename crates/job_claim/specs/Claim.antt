@@ -6,14 +6,15 @@ use mathlib.Core.List.{List, [], _++_}
 use lib.ListN.{length, getD, take, drop}
 use Rattle.arithmetic.specs.Weight.{span}
 use Rattle.pixels.specs.Sizes.{rowBytes, pictureBytes, workValues, sizeOf}
-use Rattle.pixels_layout.specs.Layout.{placeOf, alphaLane}
-use Rattle.pixels_alpha.specs.Alpha.{hasAlpha}
+use Rattle.pixels_layout.specs.Layout.{alphaLane}
+use Rattle.rows_form.specs.Form.{placeIn, flagIn}
 use Rattle.pixels_crop.specs.Crop.{cropped}
 use Rattle.rows_laws.specs.Mean.{exactSum, total, Near, Premise}
+use Rattle.job_rules.specs.declared.Kind.the-variants.{Picture, Plane}
 use Rattle.job_rules.specs.declared.Plan.{Plan}
-use Rattle.job_rules.specs.Rules.{lanesOf, R, startNumber}
+use Rattle.job_rules.specs.Rules.{lanesOf, formOf, Formed, R, startNumber}
 use Rattle.job.specs.Record.{readyOf}
-use Rattle.job_claim.specs.Rows.{mattedByte, rowOf, joined, resized, resizedFlag}
+use Rattle.job_claim.specs.Rows.{readByte, rowOf, joined, resized, resizedFlag}
 use Rattle.job_claim.specs.Calls.{Call, Offer, Take, Run, step, run, begun, offerNumber, offerRows, takeNumber, takeOut, NoneRefused}
 
 -- ---- "Buffers have the right length when 3, 4 and 5 don't apply"
@@ -52,12 +53,12 @@ pub record Smallest (p : Plan) (accepted taken lent remaining count : ℕ) : Typ
 
 -- lane k of column j of taken row y
 abbrev pub takenByte : Plan → Run → ℕ → ℕ → ℕ → ℕ
-takenByte p r k j y = getD (getD (r .seen .rows) y []) (lanesOf p * j + placeOf (p .layout) k) 0
+takenByte p r k j y = getD (getD (r .seen .rows) y []) (lanesOf p * j + placeIn (formOf p) k) 0
 
--- "sum of wx×wy×matted byte" of that lane, over the accepted rows inside the crop
+-- "sum of wx×wy×matted byte" of that lane, over the accepted rows inside the crop; a plane's bytes are not matted
 abbrev pub exactOf : Plan → Run → ℕ → ℕ → ℕ → ℕ
 exactOf p r k j y =
-    exactSum (p .crop .width) (p .target .width) (p .crop .height) (p .target .height) (mattedByte p (λ i. getD (r .seen .source) i 0) k) j y
+    exactSum (p .crop .width) (p .target .width) (p .crop .height) (p .target .height) (readByte p (λ i. getD (r .seen .source) i 0) k) j y
 
 -- Wx × Wy
 abbrev pub totalOf : Plan → ℕ
@@ -103,21 +104,25 @@ pub record Claim (p : Plan) (given : List ℕ) (r : Run) : Type 0 where
   pub in-source : r .seen .accepted ≤ p .source .height
   pub in-schedule : r .seen .taken ≤ R p (r .seen .accepted)
   pub rest-stays : RestStays p given (r .work)
-  -- 4. as many rows were handed out as were taken, row y being the closed form of the accepted bytes, and the flag says whether a taken alpha byte isn't 255
+  -- 4. as many rows were handed out as were taken, row y being the closed form of the accepted bytes, and the flag says whether a taken alpha byte isn't 255;
+  -- a plane's is false
   pub handed : length (r .seen .rows) ≡ r .seen .taken
   pub contents : (y : ℕ) → y < r .seen .taken → getD (r .seen .rows) y [] ≡ rowOf p (λ i. getD (r .seen .source) i 0) y
-  pub flag : r .seen .flag ≡ hasAlpha (p .layout) (joined (r .seen .rows)) (p .target .width * r .seen .taken)
-  -- 5. no taken alpha byte, nor colour byte beside a taken alpha 255, is two or more levels from the exact mean of the matted bytes
-  pub near-alpha : Bounded p → (y : ℕ) → y < r .seen .taken → (j : ℕ) → j < p .target .width
+  pub flag : r .seen .flag ≡ flagIn (formOf p) (joined (r .seen .rows)) (p .target .width * r .seen .taken)
+  -- 5. of a picture no taken alpha byte, nor colour byte beside a taken alpha 255, is two or more levels from the exact mean of the matted bytes; of a plane no
+  -- taken byte is
+  pub near-alpha : p .kind ≡ Picture → Bounded p → (y : ℕ) → y < r .seen .taken → (j : ℕ) → j < p .target .width
       → Near (takenByte p r alphaLane j y) (exactOf p r alphaLane j y) (totalOf p)
-  pub near-colour : Bounded p → (y : ℕ) → y < r .seen .taken → (j : ℕ) → j < p .target .width
-      → takenByte p r alphaLane j y ≡ 255 → (k : ℕ) → k < alphaLane
+  pub near-colour : p .kind ≡ Picture → Bounded p → (y : ℕ) → y < r .seen .taken → (j : ℕ) → j < p .target .width
+      → takenByte p r alphaLane j y ≡ 255
+      → (k : ℕ) → k < alphaLane → Near (takenByte p r k j y) (exactOf p r k j y) (totalOf p)
+  pub near-plane : p .kind ≡ Plane → Bounded p → (y : ℕ) → y < r .seen .taken → (j : ℕ) → j < p .target .width → (k : ℕ) → k < lanesOf p
       → Near (takenByte p r k j y) (exactOf p r k j y) (totalOf p)
-  -- 6. once all rows are taken they are the pixels, and the flag the flag, of crop then resize, of every picture that begins with the accepted bytes: rows below
-  -- the crop may not have been accepted yet
-  pub whole : r .seen .taken ≡ p .target .height → (more : List ℕ)
+  -- 6. once all rows of a picture are taken they are the pixels, and the flag the flag, of crop then resize, of every picture that begins with the accepted
+  -- bytes: rows below the crop may not have been accepted yet
+  pub whole : p .kind ≡ Picture → r .seen .taken ≡ p .target .height → (more : List ℕ)
       → joined (r .seen .rows) ≡ resized (sizeOf (p .crop .width) (p .crop .height)) (p .layout) (p .target) (cropped (p .source) (p .crop) (r .seen .source ++ more))
-  pub whole-flag : r .seen .taken ≡ p .target .height → (more : List ℕ)
+  pub whole-flag : p .kind ≡ Picture → r .seen .taken ≡ p .target .height → (more : List ℕ)
       → r .seen .flag ≡ resizedFlag (sizeOf (p .crop .width) (p .crop .height)) (p .layout) (p .target) (cropped (p .source) (p .crop) (r .seen .source ++ more))
 
 -- ---- a list that brings the whole picture and takes the whole preview, no call being turned away
@@ -129,9 +134,9 @@ pub record Reached (p : Plan) (work pixels : List ℕ) (calls : List Call) : Typ
 
 -- ---- DEMAND 3
 pub record Demand3 : Type 0 where
-  -- for every accepting start and every list of calls
-  pub every-list : (p : Plan) (work : List ℕ) → startNumber p (length work) ≡ 0 → (calls : List Call) → Claim p work (run p (begun p work) calls)
+  -- for every accepting start, of a picture or of a plane, and every list of calls
+  pub every-list : (p : Plan) (work : List ℕ) → Formed p → startNumber p (length work) ≡ 0 → (calls : List Call) → Claim p work (run p (begun p work) calls)
   -- and for every source of the right length there is a list that gets to the end
-  pub some-list : (p : Plan) (work : List ℕ) → startNumber p (length work) ≡ 0
+  pub some-list : (p : Plan) (work : List ℕ) → Formed p → startNumber p (length work) ≡ 0
       → (pixels : List ℕ) → length pixels ≡ pictureBytes (lanesOf p) (p .source .width) (p .source .height)
       → (calls : List Call) × Reached p work pixels calls

@@ -10,29 +10,35 @@ use Rattle.pixels.specs.declared.Dimensions.{Dimensions}
 use Rattle.pixels.specs.declared.Rect.{Rect}
 use Rattle.pixels_layout.specs.declared.PixelLayout.{PixelLayout}
 use Rattle.pixels.specs.Sizes.{rowBytes, rectOf}
-use Rattle.pixels_layout.specs.Layout.{placeOf}
-use Rattle.pixels_layout.specs.Lanes.{restoredPlace}
+use Rattle.rows_form.specs.declared.RowForm.{RowForm}
+use Rattle.rows_form.specs.declared.RowForm.the-variants.{Pixels, Plain}
+use Rattle.rows_form.specs.Form.{placeIn, placeOut}
 use Rattle.pixels_alpha.specs.Alpha.{hasAlpha}
 use Rattle.rows.specs.Closed.{scaled}
 use Rattle.job_rules.specs.declared.Plan.{Plan}
-use Rattle.job_rules.specs.Rules.{lanesOf, planOf}
+use Rattle.job_rules.specs.Rules.{lanesOf, formOf, planOf}
 
 -- lane k of crop row c, pixel i, as it stands in the source: "rows and columns counted from the crop's corner"
 abbrev pub sourceByte : Plan → (ℕ → ℕ) → ℕ → ℕ → ℕ → ℕ
-sourceByte p b c i k = b (rowBytes (lanesOf p) (p .source .width) * (p .crop .y + c) + (lanesOf p * (p .crop .x + i) + placeOf (p .layout) k))
+sourceByte p b c i k = b (rowBytes (lanesOf p) (p .source .width) * (p .crop .y + c) + (lanesOf p * (p .crop .x + i) + placeIn (formOf p) k))
 
--- "The matted bytes are the accepted rows inside the crop after mult_argb (matte)"
-unfoldable pub mattedByte : Plan → (ℕ → ℕ) → ℕ → ℕ → ℕ → ℕ
-mattedByte p b k c i = laneOf (multArgb (pixelOf (sourceByte p b c i)) false) k
+-- what the scaler reads of a pixel whose lanes are `bytes`: "The matted bytes are the accepted rows inside the crop after mult_argb (matte)"; a plane's lanes are
+-- read as they are, a byte being its own remainder by 256
+abbrev pub readAs : RowForm → (ℕ → ℕ) → ℕ → ℕ
+readAs (Pixels layout) bytes k = laneOf (multArgb (pixelOf bytes) false) k
+readAs (Plain lanes) bytes k = bytes k % 256
+
+unfoldable pub readByte : Plan → (ℕ → ℕ) → ℕ → ℕ → ℕ → ℕ
+readByte p b k c i = readAs (formOf p) (sourceByte p b c i) k
 
 -- the byte at place x of output row y, before it is restored: lane x % lanes, column x / lanes
 unfoldable pub scaledLane : Plan → (ℕ → ℕ) → ℕ → ℕ → ℕ
 scaledLane p b y x =
-    scaled (p .crop .width) (p .target .width) (p .crop .height) (p .target .height) (mattedByte p b (x % lanesOf p)) (x / lanesOf p) y
+    scaled (p .crop .width) (p .target .width) (p .crop .height) (p .target .height) (readByte p b (x % lanesOf p)) (x / lanesOf p) y
 
--- output row y, "restored and packed"
+-- output row y: a picture's "restored and packed", a plane's as it is
 unfoldable pub rowOf : Plan → (ℕ → ℕ) → ℕ → List ℕ
-rowOf p b y = tabulate (restoredPlace (p .layout) (scaledLane p b y)) (rowBytes (lanesOf p) (p .target .width))
+rowOf p b y = tabulate (placeOut (formOf p) (scaledLane p b y)) (rowBytes (lanesOf p) (p .target .width))
 
 -- rows one after another
 unfoldable pub joined : List (List ℕ) → List ℕ

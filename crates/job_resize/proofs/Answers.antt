@@ -1,7 +1,7 @@
 -- What `resize` gives as its contract states it: a refusal with its number and every buffer kept, and the end of the job that it drives. Assumes nothing.
 use Prim.Native.Nat.{ℕ, _≤_}
 use mathlib.Core.Path.{_≡_, refl, sym, ap, _∙_, subst}
-use mathlib.Core.Bool.{Bool, false}
+use mathlib.Core.Bool.{Bool, true, false}
 use mathlib.Core.List.{List, _++_}
 use native.Mathlib.Omega.{arith}
 use lib.ListN.{length, getD, drop, replicate, length-append, length-replicate}
@@ -17,15 +17,15 @@ use Rattle.pixels.specs.Sizes.{pixelLanes, halfValues, workValues, pictureBytes
 use Rattle.pixels.proofs.Numbers.{number-pos, not-zero}
 use Rattle.pixels.proofs.Truths.{same-of}
 use Rattle.pixels.proofs.Causes.{first-none, none-applies}
-use Rattle.pixels.proofs.Fitting.{fits-of}
+use Rattle.pixels.proofs.Fitting.{fits-of, lanes-good}
 use Rattle.job_rules.specs.declared.Plan.{Plan}
-use Rattle.job_rules.specs.Rules.{planOf, startCauses, startNumber}
+use Rattle.job_rules.specs.Rules.{planOf, kindFits, startCauses, startNumber}
+use Rattle.job_rules.specs.declared.Kind.the-variants.{Picture}
 use Rattle.job.specs.declared.Job.{Job}
-use Rattle.job.specs.declared.Started.{Started}
-use Rattle.job.specs.declared.Started.the-variants as started
-use Rattle.job.specs.Answers.{startedNumber, startedJob}
+use Rattle.job_start.specs.declared.Started.{Started}
+use Rattle.job_start.specs.declared.Started.the-variants as started
+use Rattle.job_start.specs.Start.{startedNumber, startedJob, startWork, cleared}
 use Rattle.job.specs.Record.{fresh}
-use Rattle.job.specs.Calls.{startWork, cleared}
 use Rattle.job_claim.specs.Rows.{fullCrop, resizePlan, resized, resizedFlag}
 use Rattle.job_resize.specs.Resize.{resizeCauses, resizeNumber, resizeFlag, resizeOut, resizeWork, lastFirst, lastSecond, resizedWork}
 use Rattle.job_resize.specs.Inner.{Asked, Driven}
@@ -53,7 +53,7 @@ pub start-passes : (source : Dimensions) (layout : PixelLayout) (target : Dimens
 unfolding resizeNumber startNumber
 start-passes source layout target n m w e =
     let q = none-applies (resizeCauses source target n m w) e in
-    first-none (startCauses (resizePlan source layout target) w) (q .0, (q .1 .0, (q .1 .1 .1 .1 .0, tt)))
+    first-none (startCauses (resizePlan source layout target) w) (q .0, (lanes-good pixelLanes (record { some = omega arith; most = omega arith }), (q .1 .0, (q .1 .1 .1 .1 .0, tt))))
 
 module _ (source : Dimensions) (layout : PixelLayout) (target : Dimensions) (pixels out work : List ℕ) where
   abbrev pub n : ℕ
@@ -95,12 +95,17 @@ module _ (source : Dimensions) (layout : PixelLayout) (target : Dimensions) (pix
       begun-rest : drop both begun ≡ drop both work
       begun-rest = ap (drop both) begun-cleared ∙ drop-at (replicate both 0) (drop both work) both (length-replicate both 0)
 
+      picture-fits : kindFits Picture layout pixelLanes false ≡ true
+      unfolding kindFits
+      picture-fits = refl
+
       pub job-asked : Asked job pixels out begun
       job-asked =
           subst (λ (j : Job). Asked j pixels out begun) (sym job-is)
           (record {
             fresh-is = refl;
             sizes = fits .sizes;
+            kind-fits = picture-fits;
             pixels-long = fits .picture;
             out-long = fits .output;
             room = rw (begun-cleared, length-append, length-replicate) (omega arith);

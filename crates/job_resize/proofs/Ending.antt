@@ -21,7 +21,7 @@ use Rattle.arithmetic.specs.Sum.{sum}
 use Rattle.pixels.specs.declared.Dimensions.{Dimensions}
 use Rattle.pixels_layout.specs.declared.PixelLayout.{PixelLayout}
 use Rattle.pixels.specs.Sizes.{pixelLanes, rowBytes, halfValues, workValues, pictureBytes, Fits}
-use Rattle.pixels_alpha.specs.Alpha.{hasAlpha}
+use Rattle.rows_form.specs.Form.{flagIn}
 use Rattle.rows_schedule.specs.Schedule.{used, made, needed, since}
 use Rattle.rows_schedule.proofs.Crop.{rows-most}
 use Rattle.rows_schedule.proofs.Needed.{needed-le-made, needed-le, down-low, needed-grow}
@@ -31,7 +31,7 @@ use Rattle.rows.specs.Closed.{newest, shareBefore, firstHalf}
 use Rattle.rows_laws.proofs.Held.{Held, share-none}
 use Rattle.rows_laws.proofs.WorkRows.{parity, half-even, half-odd}
 use Rattle.job_rules.specs.declared.Plan.{Plan}
-use Rattle.job_rules.specs.Rules.{lanesOf, R}
+use Rattle.job_rules.specs.Rules.{lanesOf, formOf, R}
 use Rattle.job.specs.declared.Job.{Job}
 use Rattle.job.specs.Record.{Rules}
 use Rattle.job_claim.specs.Rows.{rowsOf, resizePlan, resized, resizedFlag}
@@ -159,10 +159,10 @@ module _ (p : Plan) (pixels out₀ work₀ : List ℕ) (j : Job) (out work : Lis
       subst (λ (q : Plan). out ≡ rowsOf q (bytesOf pixels) (q .target .height)) (g .plan-is)
       (g .made ∙ rw (taken-all, drop-of-length-le out₀ {i = rowBytes (lanesOf (j .plan)) (j .plan .target .width) * j .plan .target .height} (omega (arith, g .out-long))) (append-nil (rowsOf (j .plan) (bytesOf pixels) (j .plan .target .height))))
 
-  pub flag-end : j .flag ≡ hasAlpha (p .layout) (rowsOf p (bytesOf pixels) (p .target .height)) (p .target .width * p .target .height)
+  pub flag-end : j .flag ≡ flagIn (formOf p) (rowsOf p (bytesOf pixels) (p .target .height)) (p .target .width * p .target .height)
   flag-end =
-      subst (λ (q : Plan). j .flag ≡ hasAlpha (q .layout) (rowsOf q (bytesOf pixels) (q .target .height)) (q .target .width * q .target .height)) (g .plan-is)
-      (g .flagged ∙ ap (λ (t : ℕ). hasAlpha (j .plan .layout) (rowsOf (j .plan) (bytesOf pixels) t) (j .plan .target .width * t)) taken-all)
+      subst (λ (q : Plan). j .flag ≡ flagIn (formOf q) (rowsOf q (bytesOf pixels) (q .target .height)) (q .target .width * q .target .height)) (g .plan-is)
+      (g .flagged ∙ ap (λ (t : ℕ). flagIn (formOf (j .plan)) (rowsOf (j .plan) (bytesOf pixels) t) (j .plan .target .width * t)) taken-all)
 
   held-end : Held (scaleBy (j .plan)) (cropValue (j .plan) (bytesOf pixels)) (j .plan .crop .height) (j .plan .target .height) work
   held-end = subst (λ (t : ℕ). Held (scaleBy (j .plan)) (cropValue (j .plan) (bytesOf pixels)) (j .plan .crop .height) t work) taken-all

@@ -3,7 +3,7 @@
 use Prim.Native.Nat.{ℕ, zero, suc, _+_, _-_, _*_, _/_, _%_, _≤_, _<_, min}
 use mathlib.Core.Path.{_≡_, refl, sym, ap, ap₂, _∙_}
 use mathlib.Core.Logic.{_⊎_, inl, inr}
-use mathlib.Core.Bool.{Bool, false, _||_}
+use mathlib.Core.Bool.{Bool, true, false, _||_}
 use mathlib.Core.List.{List, [], _++_, append-assoc}
 use native.Mathlib.Omega.{arith}
 use native.Mathlib.Nat.{mul-zero, mul-mod-right, mul-pos, mul-sub}
@@ -11,25 +11,23 @@ use native.Mathlib.Numerals.{add-one}
 use lib.ListN.{length, getD, take, drop, replicate, length-append, length-drop, length-replicate}
 use lib.Seq.{getD-drop, take-at, drop-at, drop-drop, drop-append-add}
 use Rattle.arithmetic.proofs.Orders.{le-or-lt}
-use Rattle.pixels.specs.Sizes.{pixelLanes, rowBytes, halfValues, workValues, pictureBytes, Fits}
-use Rattle.pixels_alpha.specs.Alpha.{hasAlpha}
-use Rattle.pixels_crop.specs.Crop.{pictureRow}
+use Rattle.pixels.specs.Sizes.{rowBytes, halfValues, workValues, pictureBytes, Fits}
+use Rattle.rows_form.specs.Form.{flagIn}
 use Rattle.rows_schedule.specs.Schedule.{used}
-use Rattle.rows_schedule.proofs.Crop.{rows-all, rows-most, rows-none, Place, within, beside, place}
-use Rattle.rows.specs.WorkRows.{rowIn}
+use Rattle.rows_schedule.proofs.Crop.{rows-all, rows-none}
 use Rattle.rows_laws.proofs.Held.{held-start}
-use Rattle.rows_laws.proofs.WorkRows.{rowIn-rest, rowLeft-rest}
 use Rattle.job_rules.specs.declared.Plan.{Plan}
-use Rattle.job_rules.specs.Rules.{lanesOf, R}
+use Rattle.job_rules.specs.Rules.{lanesOf, formOf, kindFits, R}
 use Rattle.job.specs.declared.Job.{Job}
 use Rattle.job.specs.Record.{Rules, fresh}
-use Rattle.job.specs.Calls.{scaleBy, count, cleared, rowAccepted, valuesOf, fed, offerNumber, offerJob, offerWork, moreAccepted, takeNumber, takeJob, takeOut, takeWork, moreTaken, rowTaken, workTaken}
+use Rattle.job.specs.Calls.{scaleBy, count, offerNumber, offerJob, offerWork, moreAccepted, takeNumber, takeJob, takeOut, takeWork, moreTaken, rowTaken, workTaken}
 use Rattle.job.proofs.Views.{WholeRows, OfferWent, offer-went, offer-goes, TakeWent, take-went, take-goes}
+use Rattle.job_start.specs.Start.{cleared}
 use Rattle.job_claim.specs.Rows.{rowOf, rowsOf}
-use Rattle.job_claim.proofs.Reading.{cropValue}
-use Rattle.job_claim.proofs.Feeding.{Holds, fed-held, fed-length, row-in, row-beside}
-use Rattle.job_claim.proofs.Taking.{row-is, left-holds, left-length}
-use Rattle.job_claim.proofs.Flagged.{hasAlpha-append, hasAlpha-none}
+use Rattle.job_claim.proofs.Reading.{Shape, shape-of, cropValue}
+use Rattle.job_claim.proofs.Feeding.{Holds, fed-held, fed-length, fed-rest}
+use Rattle.job_claim.proofs.Taking.{row-is, left-holds, left-length, left-rest}
+use Rattle.job_claim.proofs.Flagged.{flag-append, flag-none}
 use Rattle.job_claim.proofs.Whole.{rowOf-length}
 use Rattle.job_claim.proofs.Invariant.{count-some, count-most, count-bytes, offer-rules, take-rules}
 
@@ -43,73 +41,55 @@ unfolding rowsOf
 rowsOf-length p b zero = omega arith
 rowsOf-length p b (suc n) = omega (arith, length-append (rowsOf p b n) (rowOf p b n), rowsOf-length p b n, rowOf-length p b n)
 
-pub rowsOf-flag : (p : Plan) (b : ℕ → ℕ) (n : ℕ) → hasAlpha (p .layout) (rowsOf p b (suc n)) (p .target .width * suc n) ≡ (hasAlpha (p .layout) (rowsOf p b n) (p .target .width * n) || hasAlpha (p .layout) (rowOf p b n) (p .target .width))
+pub rowsOf-flag : (p : Plan) → Shape p → (b : ℕ → ℕ) (n : ℕ)
+    → flagIn (formOf p) (rowsOf p b (suc n)) (p .target .width * suc n) ≡ (flagIn (formOf p) (rowsOf p b n) (p .target .width * n) || flagIn (formOf p) (rowOf p b n) (p .target .width))
 unfolding rowsOf
-rowsOf-flag p b n =
-    let e : p .target .width * suc n ≡ p .target .width * n + p .target .width = omega arith in
-    rw e (hasAlpha-append (p .layout) (rowsOf p b n) (rowOf p b n) (p .target .width * n) (p .target .width) (omega (arith, rowsOf-length p b n)))
+rowsOf-flag p shape b n = flag-append (formOf p) (rowsOf p b n) (rowOf p b n) (p .target .width) n (rw (shape .lanes-form) (rowsOf-length p b n))
 
--- ---- what is beyond the two halves stays
+-- ---- the two halves
 module _ (p : Plan) where
   two-halves : workValues (lanesOf p) (p .target .width) ≡ halfValues (lanesOf p) (p .target .width) + halfValues (lanesOf p) (p .target .width)
   two-halves = omega arith
-
-  row-rest : (fits : Fits (p .source) (p .crop) (p .target)) (row : List ℕ) (s : ℕ) (work : List ℕ) → workValues (lanesOf p) (p .target .width) ≤ length work
-      → drop (workValues (lanesOf p) (p .target .width)) (rowAccepted p row s work) ≡ drop (workValues (lanesOf p) (p .target .width)) work
-  row-rest fits row s work room = by (place (p .crop .y) (p .crop .height) s)
-    where
-      by : Place (p .crop .y) (p .crop .height) s → drop (workValues (lanesOf p) (p .target .width)) (rowAccepted p row s work) ≡ drop (workValues (lanesOf p) (p .target .width)) work
-      by (within a b) =
-          rw (row-in p fits row s work a b, two-halves)
-          (rowIn-rest (scaleBy p) (s - p .crop .y) (valuesOf p row) work (omega arith))
-      by (beside e w) = ap (drop (workValues (lanesOf p) (p .target .width))) (row-beside p fits row s work w)
-
-  pub fed-rest : (fits : Fits (p .source) (p .crop) (p .target)) (rows : List ℕ) (k c : ℕ) (work : List ℕ) → workValues (lanesOf p) (p .target .width) ≤ length work
-      → drop (workValues (lanesOf p) (p .target .width)) (fed p rows k c work) ≡ drop (workValues (lanesOf p) (p .target .width)) work
-  unfolding fed
-  fed-rest fits rows k zero work room = refl
-  fed-rest fits rows k (suc c) work room =
-      row-rest fits (pictureRow pixelLanes rows (p .source .width) c) (k + c) (fed p rows k c work) (omega (arith, fed-length p fits rows k c work room)) ∙ fed-rest fits rows k c work room
-
-pub taken-rest : (j : Job) (work : List ℕ) → drop (workValues (lanesOf (j .plan)) (j .plan .target .width)) (workTaken j work) ≡ drop (workValues (lanesOf (j .plan)) (j .plan .target .width)) work
-unfolding workTaken
-taken-rest j work = rw (two-halves (j .plan)) (rowLeft-rest _ _ _ work (halfValues (lanesOf (j .plan)) (j .plan .target .width)))
 
 -- ---- the job under way: the picture's pixels, the output and the work values as they were lent, and as they are
 pub record Going (p : Plan) (pixels out₀ work₀ : List ℕ) (j : Job) (out work : List ℕ) : Type 0 where
   pub plan-is : j .plan ≡ p
   pub rules : Rules j
-  pub pixels-long : length pixels ≡ pictureBytes pixelLanes (j .plan .source .width) (j .plan .source .height)
-  pub out-long : length out₀ ≡ pictureBytes pixelLanes (j .plan .target .width) (j .plan .target .height)
+  pub pixels-long : length pixels ≡ pictureBytes (lanesOf (j .plan)) (j .plan .source .width) (j .plan .source .height)
+  pub out-long : length out₀ ≡ pictureBytes (lanesOf (j .plan)) (j .plan .target .width) (j .plan .target .height)
   pub room : workValues (lanesOf (j .plan)) (j .plan .target .width) ≤ length work
   pub held : Holds (j .plan) (bytesOf pixels) (j .accepted) (j .taken) work
   pub made : out ≡ rowsOf (j .plan) (bytesOf pixels) (j .taken) ++ drop (rowBytes (lanesOf (j .plan)) (j .plan .target .width) * j .taken) out₀
-  pub flagged : j .flag ≡ hasAlpha (j .plan .layout) (rowsOf (j .plan) (bytesOf pixels) (j .taken)) (j .plan .target .width * j .taken)
+  pub flagged : j .flag ≡ flagIn (formOf (j .plan)) (rowsOf (j .plan) (bytesOf pixels) (j .taken)) (j .plan .target .width * j .taken)
   pub rest : drop (workValues (lanesOf (j .plan)) (j .plan .target .width)) work ≡ drop (workValues (lanesOf (j .plan)) (j .plan .target .width)) work₀
   pub long : length work ≡ length work₀
 
 -- ---- at the start
-pub going-first : (p : Plan) (pixels out₀ work₀ : List ℕ) → Fits (p .source) (p .crop) (p .target) → length pixels ≡ pictureBytes pixelLanes (p .source .width) (p .source .height)
-    → length out₀ ≡ pictureBytes pixelLanes (p .target .width) (p .target .height) → workValues (lanesOf p) (p .target .width) ≤ length work₀ → Going p pixels out₀ work₀ (fresh p) out₀ (cleared p work₀)
+pub going-first : (p : Plan) (pixels out₀ work₀ : List ℕ) → Fits (p .source) (p .crop) (p .target) → kindFits (p .kind) (p .layout) (p .lanes) false ≡ true
+    → length pixels ≡ pictureBytes (lanesOf p) (p .source .width) (p .source .height)
+    → length out₀ ≡ pictureBytes (lanesOf p) (p .target .width) (p .target .height) → workValues (lanesOf p) (p .target .width) ≤ length work₀ → Going p pixels out₀ work₀ (fresh p) out₀ (cleared p work₀)
 unfolding rowsOf
-going-first p pixels out₀ work₀ fits pl ol room =
+going-first p pixels out₀ work₀ fits kind pl ol room =
     let none : R p 0 ≡ 0 = rows-none (p .crop .y) (p .crop .height) (p .target .height) (fits .crop-height) in
     let unused : used (p .crop .y) (p .crop .height) 0 ≡ 0 = omega arith in
     let w : ℕ = workValues (lanesOf p) (p .target .width) in
     record {
       plan-is = refl;
-      rules = record { sizes = fits; rows = omega arith; low = omega (arith, none); high = omega arith; flagless = λ q. refl };
+      rules = record { sizes = fits; rows = omega arith; low = omega (arith, none); high = omega arith; kind-fits = kind; flagless = λ q. refl };
       pixels-long = pl;
       out-long = ol;
       room = rw (length-append, length-replicate) (omega arith);
       held = rw (unused, two-halves p) (held-start (scaleBy p) (cropValue p (bytesOf pixels)) (drop (halfValues (lanesOf p) (p .target .width) + halfValues (lanesOf p) (p .target .width)) work₀));
       made = rw (mul-zero (rowBytes (lanesOf p) (p .target .width))) refl;
-      flagged = rw (mul-zero (p .target .width)) (sym (hasAlpha-none (p .layout) []));
+      flagged = rw (mul-zero (p .target .width)) (sym (flag-none (formOf p) []));
       rest = drop-at (replicate w 0) (drop w work₀) w (length-replicate w 0);
       long = rw (length-append, length-replicate, length-drop) (omega arith);
     }
 
 module _ (p : Plan) (pixels out₀ work₀ : List ℕ) (j : Job) (out work : List ℕ) (g : Going p pixels out₀ work₀ j out work) where
+  pub shape : Shape (j .plan)
+  shape = shape-of (j .plan) (j .accepted) (j .taken) (j .flag) (g .rules)
+
   -- ---- an offer of all the rows that remain
   module _ (quiet : R (j .plan) (j .accepted) ≤ j .taken) (more : j .taken < j .plan .target .height) where
     pub remain : j .accepted < j .plan .source .height
@@ -129,7 +109,7 @@ module _ (p : Plan) (pixels out₀ work₀ : List ℕ) (j : Job) (out work : Lis
 
     lent-whole : WholeRows (j .plan) (length lent)
     lent-whole = record {
-      some = rw lent-length (mul-pos (let q : 0 < rowBytes (lanesOf (j .plan)) (j .plan .source .width) = omega (arith, g .rules .sizes .source-width .some) in q) (let q : 0 < j .plan .source .height - j .accepted = omega (arith, remain) in q));
+      some = rw lent-length (mul-pos (mul-pos (shape .lane-count .some) (g .rules .sizes .source-width .some)) (let q : 0 < j .plan .source .height - j .accepted = omega (arith, remain) in q));
       whole = rw lent-length (mul-mod-right (rowBytes (lanesOf (j .plan)) (j .plan .source .width)) (j .plan .source .height - j .accepted));
     }
 
@@ -148,7 +128,7 @@ module _ (p : Plan) (pixels out₀ work₀ : List ℕ) (j : Job) (out work : Lis
         let q : Plan = j .plan in
         let c : ℕ = count j (length lent) in
         let here = count-bytes j (length lent) lent-whole in
-        let len = fed-length q (g .rules .sizes) lent (j .accepted) c work (g .room) in
+        let len = fed-length q shape (g .rules .sizes) lent (j .accepted) c work (g .room) in
         rw (offered .next, offered .work-after)
         (record {
           plan-is = g .plan-is;
@@ -156,11 +136,11 @@ module _ (p : Plan) (pixels out₀ work₀ : List ℕ) (j : Job) (out work : Lis
           pixels-long = g .pixels-long;
           out-long = g .out-long;
           room = rw len (g .room);
-          held = fed-held q (g .rules .sizes) (bytesOf pixels) lent (j .accepted) (j .taken) c work (g .rules .high) here
+          held = fed-held q shape (g .rules .sizes) (bytesOf pixels) lent (j .accepted) (j .taken) c work (g .rules .high) here
               (λ z l. getD-drop (rowBytes (lanesOf q) (q .source .width) * j .accepted) pixels z 0) (g .held);
           made = g .made;
           flagged = g .flagged;
-          rest = fed-rest q (g .rules .sizes) lent (j .accepted) c work (g .room) ∙ g .rest;
+          rest = fed-rest q shape (g .rules .sizes) lent (j .accepted) c work (g .room) ∙ g .rest;
           long = len ∙ g .long;
         })
 
@@ -201,7 +181,7 @@ module _ (p : Plan) (pixels out₀ work₀ : List ℕ) (j : Job) (out work : Lis
           room = rw len (g .room);
           held = rw (add-one t) (left-holds j (g .rules) ready b work (g .held));
           made = rw (add-one t, more, before, after, row-made) (sym (append-assoc (rowsOf q b t) (rowOf q b t) (drop (m * t + m) out₀)));
-          flagged = rw (add-one t, rowsOf-flag q b t, row-made) (ap (λ (f : Bool). f || hasAlpha (q .layout) (rowOf q b t) (q .target .width)) (g .flagged));
-          rest = taken-rest j work ∙ g .rest;
+          flagged = rw (add-one t, rowsOf-flag q shape b t, row-made) (ap (λ (f : Bool). f || flagIn (formOf q) (rowOf q b t) (q .target .width)) (g .flagged));
+          rest = left-rest j work ∙ g .rest;
           long = len ∙ g .long;
         })

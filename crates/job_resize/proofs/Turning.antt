@@ -6,7 +6,7 @@ use mathlib.Core.Logic.{_⊎_, inl, inr}
 use mathlib.Core.Bool.{Bool, true, false, cond}
 use mathlib.Core.List.{List, _++_}
 use native.Mathlib.Omega.{arith}
-use native.Mathlib.Nat.{mul-le-mul-left, mul-sub}
+use native.Mathlib.Nat.{mul-le-mul-left, mul-pos, mul-sub}
 use lib.Dec.{eqb}
 use lib.ListN.{length, getD, take, drop, length-append, length-drop}
 use lib.Seq.{length-take-le, take-all}
@@ -19,20 +19,21 @@ use Rattle.job_rules.specs.declared.Plan.{Plan}
 use Rattle.job_rules.specs.Rules.{lanesOf, R}
 use Rattle.job.specs.declared.Job.{Job}
 use Rattle.job.specs.Record.{Rules, fresh, lawful, readyOf}
-use Rattle.job.specs.Calls.{mostRows, count, lentRows, cleared, offerJob, offerWork, takeJob, takeOut, takeWork, moreTaken, rowTaken}
+use Rattle.job.specs.Calls.{mostRows, count, lentRows, offerJob, offerWork, takeJob, takeOut, takeWork, moreTaken, rowTaken}
 use Rattle.job_rules.proofs.Rules.{rules-good}
 use Rattle.job.proofs.Views.{take-went}
 use Rattle.job.proofs.Counting.{counted-stop}
+use Rattle.job_start.specs.Start.{cleared}
 use Rattle.job_claim.proofs.Invariant.{count-most}
 use Rattle.job_resize.specs.Inner.{Asked, restOf, fedJob, fedWork, rowSize, fromNext, emittedOut}
-use Rattle.job_resize.proofs.Going.{bytesOf, Going, rowsOf-length, going-first, remain, lent-length, offered, offer-going, take-accepted, take-going}
+use Rattle.job_resize.proofs.Going.{bytesOf, Going, shape, rowsOf-length, going-first, remain, lent-length, offered, offer-going, take-accepted, take-going}
 
 -- ---- at the start
 pub asked-going : (j : Job) (pixels out work : List ℕ) → Asked j pixels out work → Going (j .plan) pixels out work j out work
 asked-going j pixels out work a =
     subst (λ (w : List ℕ). Going (j .plan) pixels out work j out w) (sym (a .clear))
     (subst (λ (k : Job). Going (j .plan) pixels out work k out (cleared (j .plan) work)) (sym (a .fresh-is))
-    (going-first (j .plan) pixels out work (a .sizes) (a .pixels-long) (a .out-long) (a .room)))
+    (going-first (j .plan) pixels out work (a .sizes) (a .kind-fits) (a .pixels-long) (a .out-long) (a .room)))
 
 -- ---- what is ready
 ready-none : (j : Job) → Rules j → R (j .plan) (j .accepted) ≤ j .taken → eqb (readyOf j) 0 ≡ true
@@ -95,7 +96,7 @@ module _ (p : Plan) (pixels out₀ work₀ : List ℕ) (j : Job) (out work : Lis
         rest-rows : lentRows (j .plan) (length (restOf j pixels)) ≡ j .plan .source .height - j .accepted
         rest-rows =
             let w : ℕ = rowBytes (lanesOf (j .plan)) (j .plan .source .width) in
-            let some : 0 < w = omega (arith, g .rules .sizes .source-width .some) in
+            let some : 0 < w = mul-pos (shape p pixels out₀ work₀ j out work g .lane-count .some) (g .rules .sizes .source-width .some) in
             rw (lent-length p pixels out₀ work₀ j out work g quiet more)
             (div-is {x = rowBytes (lanesOf (j .plan)) (j .plan .source .width) * (j .plan .source .height - j .accepted)} w {q = j .plan .source .height - j .accepted} (omega arith) (omega arith))
 

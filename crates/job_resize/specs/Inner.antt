@@ -1,18 +1,19 @@
 -- What the private functions of `resize` ask and ensure. Assumes nothing.
 use Prim.Native.Nat.{ℕ, _*_, _≤_}
 use mathlib.Core.Path.{_≡_}
-use mathlib.Core.Bool.{Bool, cond}
+use mathlib.Core.Bool.{Bool, true, false, cond}
 use mathlib.Core.List.{List, _++_}
 use lib.Dec.{eqb}
 use lib.ListN.{length, getD, take, drop}
 use Rattle.arithmetic.specs.Table.{tabulate}
-use Rattle.pixels.specs.Sizes.{pixelLanes, rowBytes, halfValues, workValues, pictureBytes, Fits}
-use Rattle.pixels_alpha.specs.Alpha.{hasAlpha}
+use Rattle.pixels.specs.Sizes.{rowBytes, halfValues, workValues, pictureBytes, Fits}
+use Rattle.rows_form.specs.Form.{flagIn}
 use Rattle.job_rules.specs.declared.Plan.{Plan}
-use Rattle.job_rules.specs.Rules.{lanesOf}
+use Rattle.job_rules.specs.Rules.{lanesOf, formOf, kindFits}
 use Rattle.job.specs.declared.Job.{Job}
 use Rattle.job.specs.Record.{fresh, readyOf}
-use Rattle.job.specs.Calls.{cleared, offerJob, offerWork, takeOut}
+use Rattle.job.specs.Calls.{offerJob, offerWork, takeOut}
+use Rattle.job_start.specs.Start.{cleared}
 use Rattle.job_claim.specs.Rows.{rowsOf}
 use Rattle.job_resize.specs.Resize.{lastFirst, lastSecond}
 
@@ -43,13 +44,14 @@ emittedOut j out work =
 pub record Asked (j : Job) (pixels out work : List ℕ) : Type 0 where
   pub fresh-is : j ≡ fresh (j .plan)
   pub sizes : Fits (j .plan .source) (j .plan .crop) (j .plan .target)
-  pub pixels-long : length pixels ≡ pictureBytes pixelLanes (j .plan .source .width) (j .plan .source .height)
-  pub out-long : length out ≡ pictureBytes pixelLanes (j .plan .target .width) (j .plan .target .height)
+  pub kind-fits : kindFits (j .plan .kind) (j .plan .layout) (j .plan .lanes) false ≡ true
+  pub pixels-long : length pixels ≡ pictureBytes (lanesOf (j .plan)) (j .plan .source .width) (j .plan .source .height)
+  pub out-long : length out ≡ pictureBytes (lanesOf (j .plan)) (j .plan .target .width) (j .plan .target .height)
   pub room : workValues (lanesOf (j .plan)) (j .plan .target .width) ≤ length work
   pub clear : work ≡ cleared (j .plan) work
 
 -- the job at its end
 pub record Driven (p : Plan) (pixels work₀ : List ℕ) (flag : Bool) (out work : List ℕ) : Type 0 where
   pub out-is : out ≡ rowsOf p (λ i. getD pixels i 0) (p .target .height)
-  pub flag-is : flag ≡ hasAlpha (p .layout) (rowsOf p (λ i. getD pixels i 0) (p .target .height)) (p .target .width * p .target .height)
+  pub flag-is : flag ≡ flagIn (formOf p) (rowsOf p (λ i. getD pixels i 0) (p .target .height)) (p .target .width * p .target .height)
   pub work-is : work ≡ tabulate (lastFirst p (λ i. getD pixels i 0)) (halfValues (lanesOf p) (p .target .width)) ++ (tabulate (lastSecond p (λ i. getD pixels i 0)) (halfValues (lanesOf p) (p .target .width)) ++ drop (workValues (lanesOf p) (p .target .width)) work₀)

@@ -15,7 +15,8 @@ use Rattle.rows.specs.Column.{value}
 use Rattle.rows.specs.WorkRows.{halfOf}
 use Rattle.rows.specs.Closed.{newest}
 use Rattle.job_rules.specs.declared.Plan.{Plan}
-use Rattle.job_claim.specs.Rows.{fullCrop, mattedByte, resizePlan, resized, resizedFlag}
+use Rattle.job_rules.specs.Rules.{lanesOf}
+use Rattle.job_claim.specs.Rows.{fullCrop, readByte, resizePlan, resized, resizedFlag}
 
 -- 1, 3, 4, 5 ascending, of n bytes of pixels, m of output and w work values
 abbrev pub lengthCauses : Dimensions → Dimensions → ℕ → ℕ → ℕ → List Cause
@@ -33,7 +34,7 @@ resizeNumber source target n m w = first (resizeCauses source target n m w)
 
 -- the value of crop row c at place x of a half, b i being the source's byte i
 unfoldable pub rowValueAt : Plan → (ℕ → ℕ) → ℕ → ℕ → ℕ
-rowValueAt p b x c = value (mattedByte p b (x % pixelLanes) c) (p .crop .width) (p .target .width) (x / pixelLanes)
+rowValueAt p b x c = value (readByte p b (x % lanesOf p) c) (p .crop .width) (p .target .width) (x / lanesOf p)
 
 -- what the last take leaves at place x of the first and of the second half, all h crop rows having come in. Where the height does not grow, nothing is left over
 -- in the first half and the second holds the last row; where it grows, each half holds the row that went there last.

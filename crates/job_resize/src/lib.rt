@@ -1,9 +1,10 @@
 // Whole pictures scaled: resize, a job with the full crop (SCOPE, "The job"; the Rust: Image::resize and rescale_plane).
 use job::Job;
 use job::Offered;
-use job::Started;
 use job::Taken;
-use job::start;
+use job_rules::row_bytes;
+use job_start::Started;
+use job_start::start;
 use pixels::Checked;
 use pixels::Dimensions;
 use pixels::Flagged;
@@ -52,7 +53,7 @@ fn feed(job: Job, pixels: &[u8], work: &mut [u32]) -> Job
     if job.ready() != 0 {
         return job;
     }
-    let at = PIXEL_LANES * job.plan.source.width as usize * job.accepted as usize;
+    let at = row_bytes(job.plan, job.plan.source.width) * job.accepted as usize;
     after_offer(job.offer(&pixels[at..], work))
 }
 
@@ -63,7 +64,7 @@ fn emit(job: Job, out: &mut [u8], work: &mut [u32]) -> Job
     ensures out { λ _. ⌜ now (out .exit) ≡ emittedOut job (now (out .entry)) (now (work .entry)) ⌝ }
     ensures work { λ _. ⌜ now (work .exit) ≡ takeWork job (rowBytes (lanesOf (job .plan)) (job .plan .target .width)) (now (work .entry)) ⌝ }
 {
-    let size = PIXEL_LANES * job.plan.target.width as usize;
+    let size = row_bytes(job.plan, job.plan.target.width);
     let at = size * job.taken as usize;
     after_take(job.take(&mut out[at..at + size], work))
 }

@@ -14,7 +14,7 @@ use Rattle.pixels.proofs.Numbers.{not-zero}
 use Rattle.rows_schedule.specs.Schedule.{countsFit}
 use Rattle.rows_schedule.proofs.Counts.{counts-of, counts-good}
 use Rattle.job_rules.specs.declared.Plan.{Plan}
-use Rattle.job_rules.specs.Rules.{lawfulOf, RulesOf}
+use Rattle.job_rules.specs.Rules.{kindFits, lawfulOf, RulesOf}
 
 flag-of : (t : ℕ) (f : Bool) → (not f || not (eqb t 0)) ≡ true → t ≡ 0 → f ≡ false
 flag-of t false e z = refl
@@ -32,13 +32,15 @@ pub rules-of : (p : Plan) (k t : ℕ) (f : Bool) → lawfulOf p k t f ≡ true �
 unfolding lawfulOf
 rules-of p k t f e =
     let s = both-true _ (not f || not (eqb t 0)) e in
-    let r = both-true _ (counts p k t) (s .0) in
+    let kind = both-true _ (kindFits (p .kind) (p .layout) (p .lanes) f) (s .0) in
+    let r = both-true _ (counts p k t) (kind .0) in
     let (rows, (low, high)) = counts-of _ _ _ _ _ _ (r .1) in
     record {
       sizes = fits-of (p .source) (p .crop) (p .target) (eqb-true _ _ (r .0));
       rows = rows;
       low = low;
       high = high;
+      kind-fits = kind .1;
       flagless = flag-of t f (s .1);
     }
 
@@ -48,6 +50,7 @@ rules-good p k t f r =
     simp (
       eq-eqb _ 0 (fits-good (p .source) (p .crop) (p .target) (r .sizes)),
       counts-good (p .crop .y) (p .crop .height) (p .target .height) (p .source .height) k t (r .rows) (r .low) (r .high),
+      r .kind-fits,
       flag-good t f (r .flagless),
     )
 
@@ -62,13 +65,18 @@ module _ (p : Plan) (k t : ℕ) (f : Bool) where
     unfolding lawfulOf
     rule-counts l = simp (eq-eqb _ 0 fit, sym is ∙ not-true b l)
 
-    module _ (passed : not b ≡ false) where
-      rule-last : (not f || not (eqb t 0)) ≡ lawfulOf p k t f
+    module _ (passed : not b ≡ false) (of-kind : Bool) (kind-is : of-kind ≡ kindFits (p .kind) (p .layout) (p .lanes) f) where
+      pub rule-kind : not of-kind ≡ true → false ≡ lawfulOf p k t f
       unfolding lawfulOf
-      rule-last = simp (eq-eqb _ 0 fit, sym is ∙ not-false b passed)
+      rule-kind l = simp (eq-eqb _ 0 fit, sym is ∙ not-false b passed, sym kind-is ∙ not-true of-kind l)
 
-      pub rule-taken : (t ≡ 0 → ⊥) → true ≡ lawfulOf p k t f
-      rule-taken l = (let q : true ≡ (not f || not (eqb t 0)) = simp (ne-eqb t 0 l, or-true) in q) ∙ rule-last
+      module _ (fits-kind : not of-kind ≡ false) where
+        rule-last : (not f || not (eqb t 0)) ≡ lawfulOf p k t f
+        unfolding lawfulOf
+        rule-last = simp (eq-eqb _ 0 fit, sym is ∙ not-false b passed, sym kind-is ∙ not-false of-kind fits-kind)
 
-      pub rule-flag : t ≡ 0 → not f ≡ lawfulOf p k t f
-      rule-flag l = (let q : not f ≡ (not f || not (eqb t 0)) = simp (eq-eqb t 0 l, or-false) in q) ∙ rule-last
+        pub rule-taken : (t ≡ 0 → ⊥) → true ≡ lawfulOf p k t f
+        rule-taken l = (let q : true ≡ (not f || not (eqb t 0)) = simp (ne-eqb t 0 l, or-true) in q) ∙ rule-last
+
+        pub rule-flag : t ≡ 0 → not f ≡ lawfulOf p k t f
+        rule-flag l = (let q : not f ≡ (not f || not (eqb t 0)) = simp (eq-eqb t 0 l, or-false) in q) ∙ rule-last

@@ -1,9 +1,12 @@
 -- The tests of an offer and a take as the code makes them: each says whether its cause applies. Assumes nothing.
-use Prim.Native.Nat.{ℕ, _%_, _≤_, _<_}
+use Prim.Native.Nat.{ℕ, _*_, _/_, _%_, _≤_, _<_}
 use mathlib.Core.Path.{_≡_, sym, ap, _∙_}
-use mathlib.Core.Bool.{Bool, true, false, not, _||_, or-true}
-use lib.Dec.{eqb, ltb}
-use borrow.Author.Tests.{eq-eqb, ne-eqb, lt-ltb, le-ltb}
+use mathlib.Core.Bool.{Bool, true, false, not, or-true}
+use mathlib.Core.Logic.{_⊎_, inl, inr}
+use native.Mathlib.Omega.{arith}
+use lib.Dec.{ltb}
+use borrow.Author.Tests.{eq-eqb, ne-eqb, lt-ltb, le-ltb, ltb-true, ltb-false}
+use Rattle.pixels.proofs.Truths.{test}
 use Rattle.pixels.specs.Sizes.{rowBytes}
 use Rattle.job_rules.specs.declared.Plan.{Plan}
 use Rattle.job_rules.specs.Rules.{lanesOf, R, lawfulOf, badRows}
@@ -34,3 +37,11 @@ module _ (p : Plan) (k t : ℕ) (f : Bool) (x : ℕ) (is : x ≡ R p k) where
 
   pub made-reached : x ≤ t → ltb t (R p k) ≡ false
   made-reached l = le-ltb t (R p k) (rw is at l)
+
+-- ---- the work values: two halves of s values are more than n exactly if one half is more than n / 2
+pub halves : (n s : ℕ) → ltb (n / 2) s ≡ ltb n (2 * s)
+halves n s = by (test (ltb (n / 2) s))
+  where
+    by : (ltb (n / 2) s ≡ true) ⊎ (ltb (n / 2) s ≡ false) → ltb (n / 2) s ≡ ltb n (2 * s)
+    by (inl e) = let l = ltb-true (n / 2) s e in e ∙ sym (lt-ltb n (2 * s) (omega arith))
+    by (inr e) = let l = ltb-false (n / 2) s e in e ∙ sym (le-ltb n (2 * s) (omega arith))

@@ -6,38 +6,50 @@ use pixels::PIXEL_LANES;
 use pixels::Rect;
 use pixels::Refusal;
 use pixels_layout::PixelLayout;
+use pixels_sizes::bad_lanes;
 use pixels_sizes::check_sizes;
+use pixels_sizes::crop_beyond;
+use pixels_sizes::wrong_sizes;
+use rows_form::RowForm;
 use rows_schedule::counts_fit;
 use rows_schedule::rows_by;
 ghost use mathlib.Core.Path.{_≡_};
 ghost use lib.Dec.{ltb};
 ghost use Rattle.pixels.specs.Refusals.{checkedNumber};
 ghost use Rattle.pixels.specs.Sizes.{rowBytes, workValues};
-ghost use Rattle.job_rules.specs.Rules.{lanesOf, R, lawfulOf, startNumber, offerNumberOf, takeNumberOf};
+ghost use Rattle.job_rules.specs.Rules.{lanesOf, formOf, kindFits, R, lawfulOf, startNumber, offerNumberOf, takeNumberOf};
 
-// What does not change in a job.
+// What a job scales: a picture's pixels, matted and restored, or a plane's lanes as they are.
+pub enum Kind {
+    Picture,
+    Plane,
+}
+
+// What does not change in a job. A picture has the four lanes of its pixels; a plane has 1 to 4 and the layout Rgba8.
 pub struct Plan {
     pub source: Dimensions,
     pub layout: PixelLayout,
     pub crop: Rect,
     pub target: Dimensions,
+    pub kind: Kind,
+    pub lanes: u32,
 }
 
 // ---- numbers
 
-// The bytes of a row of `width` pixels, which are also the values of a half: the one place that knows a job's lanes.
+// The bytes of a row of `width` pixels, which are also the values of a half.
 // Rules out: a byte less for each pixel; the source's width always.
 pub fn row_bytes(p: Plan, width: u32) -> usize
     ensures { λ r. ⌜ r ≡ rowBytes (lanesOf p) width ⌝ }
 {
-    PIXEL_LANES * width as usize
+    p.lanes as usize * width as usize
 }
 
 // Fewer than two halves of work values.
 fn short_work(p: Plan, n: usize) -> bool
     ensures { λ r. ⌜ r ≡ ltb n (workValues (lanesOf p) (p .target .width)) ⌝ }
 {
-    n < 2 * row_bytes(p, p.target.width)
+    n / 2 < row_bytes(p, p.target.width)
 }
 
 // R(k). A row is ready while it is above the rows taken: the Rust's Rescaler::has_pending_output, there by an accumulator.
@@ -47,10 +59,50 @@ fn made(p: Plan, accepted: u32) -> u64
     rows_by(p.crop.y, p.crop.height, p.target.height, accepted)
 }
 
+// What the bytes of a job's rows are. Rules out: a plane's rows matted; lanes of a plane counted as four.
+pub fn row_form(p: Plan) -> RowForm
+    ensures { λ r. ⌜ r ≡ formOf p ⌝ }
+{
+    let kind = p.kind;
+    let layout = p.layout;
+    match kind {
+        Kind::Picture => RowForm::Pixels(layout),
+        Kind::Plane => RowForm::Plain(p.lanes),
+    }
+}
+
 // ---- the record rules
 
+// A picture has its pixels' lanes; a plane has 1 to 4, the layout Rgba8 and no flag.
+fn kind_fits(p: Plan, flag: bool) -> bool
+    ensures { λ r. ⌜ r ≡ kindFits (p .kind) (p .layout) (p .lanes) flag ⌝ }
+{
+    let kind = p.kind;
+    let layout = p.layout;
+    let lanes = p.lanes;
+    match kind {
+        Kind::Picture => {
+            return lanes == PIXEL_LANES as u32;
+        }
+        Kind::Plane => {}
+    }
+    match layout {
+        PixelLayout::Rgba8 => {}
+        PixelLayout::Argb8 => {
+            return false;
+        }
+        PixelLayout::Bgra8 => {
+            return false;
+        }
+    }
+    if bad_lanes(lanes) {
+        return false;
+    }
+    !flag
+}
+
 // Of a record with this plan, rows accepted, rows taken and flag.
-// Rules out: a flag before the first row taken; the rows accepted held to the crop's height.
+// Rules out: a flag before the first row taken; the rows accepted held to the crop's height; a plane's flag let pass.
 pub fn check_rules(p: Plan, accepted: u32, taken: u32, flag: bool) -> bool
     ensures { λ r. ⌜ r ≡ lawfulOf p accepted taken flag ⌝ }
 {
@@ -71,6 +123,9 @@ pub fn check_rules(p: Plan, accepted: u32, taken: u32, flag: bool) -> bool
     ) {
         return false;
     }
+    if !kind_fits(p, flag) {
+        return false;
+    }
     if taken != 0 {
         return true;
     }
@@ -79,16 +134,18 @@ pub fn check_rules(p: Plan, accepted: u32, taken: u32, flag: bool) -> bool
 
 // ---- the tests of each call, in their order
 
-// Those of a start. Rules out: every start refused; work values for one half alone; 5 told where 1 or 2 is owed.
+// Those of a start. Rules out: every start refused; work values for one half alone; 5 told where 1 is owed; 2 told before 10; five lanes let pass.
 pub fn check_start(p: Plan, work: usize) -> Checked
     ensures { λ r. ⌜ checkedNumber r ≡ startNumber p work ⌝ }
 {
-    let checked = check_sizes(p.source, p.crop, p.target);
-    match checked {
-        Checked::Refused(why) => {
-            return Checked::Refused(why);
-        }
-        Checked::Fit => {}
+    if wrong_sizes(p.source, p.crop, p.target) {
+        return Checked::Refused(Refusal::InvalidDimensions);
+    }
+    if bad_lanes(p.lanes) {
+        return Checked::Refused(Refusal::InvalidLanes);
+    }
+    if crop_beyond(p.crop, p.source) {
+        return Checked::Refused(Refusal::CropOutOfBounds);
     }
     if short_work(p, work) {
         return Checked::Refused(Refusal::WorkLength);

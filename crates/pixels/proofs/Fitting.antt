@@ -11,7 +11,7 @@ use borrow.Author.Tests.{eq-eqb, ne-eqb, lt-ltb, le-ltb, eqb-true, eqb-false, lt
 use Rattle.pixels.specs.declared.Dimensions.{Dimensions}
 use Rattle.pixels.specs.declared.Rect.{Rect}
 use Rattle.pixels.specs.Refusals.{Cause, sizeIf}
-use Rattle.pixels.specs.Sizes.{maxSide, pixelLanes, pictureBytes, badSide, badSize, emptyCrop, cropBeyond, wrongSize, sizesCauses, sizeNumber, sizesNumber, Side, Fits, sizeOf, derivedSide, scaledWidth, scaledHeight, scaledSize, scaledNumber}
+use Rattle.pixels.specs.Sizes.{maxSide, pixelLanes, maxLanes, pictureBytes, badSide, badSize, badSizes, badLanes, emptyCrop, cropBeyond, wrongSize, sizesCauses, sizeNumber, sizesNumber, Side, LaneCount, Fits, sizeOf, derivedSide, scaledWidth, scaledHeight, scaledSize, scaledNumber}
 use Rattle.pixels.proofs.Numbers.{sized-accepted}
 use Rattle.pixels.proofs.Truths.{test, neither-true, differ}
 use Rattle.pixels.proofs.Causes.{first-at, first-none, none-applies}
@@ -49,14 +49,21 @@ pub size-high : (d : Dimensions) → badSide (d .height) ≡ true → badSize d 
 unfolding badSize
 size-high d e = simp (e, or-true)
 
+-- ---- a lane count
+pub lanes-of : (lanes : ℕ) → badLanes lanes ≡ false → LaneCount lanes
+unfolding badLanes
+lanes-of lanes e =
+    let p = neither-true (eqb lanes 0) (ltb maxLanes lanes) e in
+    record { some = omega (arith, eqb-false lanes 0 (p .0)); most = ltb-false maxLanes lanes (p .1) }
+
+pub lanes-good : (lanes : ℕ) → LaneCount lanes → badLanes lanes ≡ false
+unfolding badLanes
+lanes-good lanes h = simp (ne-eqb lanes 0 (λ e. omega arith), le-ltb maxLanes lanes (h .most))
+
 -- ---- an empty crop, one beyond the source
 pub empty-width : (r : Rect) → r .width ≡ 0 → emptyCrop r ≡ true
 unfolding emptyCrop
 empty-width r e = simp (eq-eqb (r .width) 0 e)
-
-pub empty-height : (r : Rect) → r .height ≡ 0 → emptyCrop r ≡ true
-unfolding emptyCrop
-empty-height r e = simp (eq-eqb (r .height) 0 e, or-true)
 
 pub not-empty : (r : Rect) → 1 ≤ r .width → 1 ≤ r .height → emptyCrop r ≡ false
 unfolding emptyCrop
@@ -66,9 +73,10 @@ pub beyond-right : (r : Rect) (d : Dimensions) → d .width < r .x + r .width �
 unfolding cropBeyond
 beyond-right r d h = simp (lt-ltb _ _ h)
 
-pub beyond-bottom : (r : Rect) (d : Dimensions) → d .height < r .y + r .height → cropBeyond r d ≡ true
+-- where the right edge is inside, the bottom edge decides
+pub beyond-bottom : (r : Rect) (d : Dimensions) → r .x + r .width ≤ d .width → ltb (d .height) (r .y + r .height) ≡ cropBeyond r d
 unfolding cropBeyond
-beyond-bottom r d h = simp (lt-ltb _ _ h, or-true)
+beyond-bottom r d h = simp (le-ltb (d .width) (r .x + r .width) h)
 
 pub within : (r : Rect) (d : Dimensions) → r .x + r .width ≤ d .width → r .y + r .height ≤ d .height → cropBeyond r d ≡ false
 unfolding cropBeyond
@@ -86,27 +94,27 @@ size-passes d e = first-none (wrongSize d ∷ []) (e, tt)
 -- ---- the numbers of source, crop and target
 module _ (source : Dimensions) (crop : Rect) (target : Dimensions) where
   -- what number 1 looks at
-  pub wrong-source : badSize source ≡ true → (badSize source || badSize target || emptyCrop crop) ≡ true
+  pub wrong-source : badSize source ≡ true → badSizes source crop target ≡ true
   wrong-source e = simp e
 
-  pub wrong-target : badSize target ≡ true → (badSize source || badSize target || emptyCrop crop) ≡ true
+  pub wrong-target : badSize target ≡ true → badSizes source crop target ≡ true
   wrong-target e = simp (e, or-true)
 
-  pub wrong-crop : emptyCrop crop ≡ true → (badSize source || badSize target || emptyCrop crop) ≡ true
+  pub wrong-crop : emptyCrop crop ≡ true → badSizes source crop target ≡ true
   wrong-crop e = simp (e, or-true)
 
-  pub right-sizes : badSize source ≡ false → badSize target ≡ false → emptyCrop crop ≡ false → (badSize source || badSize target || emptyCrop crop) ≡ false
+  pub right-sizes : badSize source ≡ false → badSize target ≡ false → emptyCrop crop ≡ false → badSizes source crop target ≡ false
   right-sizes a b c = simp (a, b, c)
 
-  pub sizes-wrong : (badSize source || badSize target || emptyCrop crop) ≡ true → sizesNumber source crop target ≡ 1
+  pub sizes-wrong : badSizes source crop target ≡ true → sizesNumber source crop target ≡ 1
   unfolding sizesNumber
   sizes-wrong e = first-at (sizesCauses source crop target) 0 tt e
 
-  pub sizes-beyond : (badSize source || badSize target || emptyCrop crop) ≡ false → cropBeyond crop source ≡ true → sizesNumber source crop target ≡ 2
+  pub sizes-beyond : badSizes source crop target ≡ false → cropBeyond crop source ≡ true → sizesNumber source crop target ≡ 2
   unfolding sizesNumber
   sizes-beyond a b = first-at (sizesCauses source crop target) 1 (a, tt) b
 
-  pub sizes-pass : (badSize source || badSize target || emptyCrop crop) ≡ false → cropBeyond crop source ≡ false → sizesNumber source crop target ≡ 0
+  pub sizes-pass : badSizes source crop target ≡ false → cropBeyond crop source ≡ false → sizesNumber source crop target ≡ 0
   unfolding sizesNumber
   sizes-pass a b = first-none (sizesCauses source crop target) (a, (b, tt))
 

@@ -7,7 +7,7 @@ use lib.Dec.{eqb, ltb}
 use Rattle.arithmetic.specs.Quotient.{ceil}
 use Rattle.pixels.specs.declared.Dimensions.{Dimensions}
 use Rattle.pixels.specs.declared.Rect.{Rect}
-use Rattle.pixels.specs.declared.Refusal.the-variants.{InvalidDimensions, CropOutOfBounds}
+use Rattle.pixels.specs.declared.Refusal.the-variants.{InvalidDimensions, CropOutOfBounds, InvalidLanes}
 use Rattle.pixels.specs.Refusals.{Cause, cause, first}
 
 -- the largest side
@@ -17,6 +17,10 @@ maxSide = 16384
 -- the lanes of a pixel: blue, green, red and alpha, a byte each
 abbrev pub pixelLanes : ℕ
 pixelLanes = 4
+
+-- the most lanes of a plane: "a lane count from 1 to 4"
+abbrev pub maxLanes : ℕ
+maxLanes = 4
 
 -- ---- lengths, of rows that have `lanes` lanes
 
@@ -28,7 +32,7 @@ rowBytes lanes w = lanes * w
 abbrev pub pictureBytes : ℕ → ℕ → ℕ → ℕ
 pictureBytes lanes w h = rowBytes lanes w * h
 
--- "Work rows are two halves of 4 × m values each", one for each lane
+-- "Work rows are two halves of 4 × m values each", a value for each lane; "the work need count lanes in place of 4"
 abbrev pub halfValues : ℕ → ℕ → ℕ
 halfValues lanes m = lanes * m
 
@@ -50,7 +54,7 @@ emptyCrop crop = eqb (crop .width) 0 || eqb (crop .height) 0
 unfoldable pub cropBeyond : Rect → Dimensions → Bool
 cropBeyond crop size = ltb (size .width) (crop .x + crop .width) || ltb (size .height) (crop .y + crop .height)
 
--- ---- numbers 1 and 2
+-- ---- numbers 1, 2 and 10
 
 -- 1 of one size
 abbrev pub wrongSize : Dimensions → Cause
@@ -60,14 +64,24 @@ unfoldable pub sizeNumber : Dimensions → ℕ
 sizeNumber size = first (wrongSize size ∷ [])
 
 -- 1 of a source, its crop and a target
+abbrev pub badSizes : Dimensions → Rect → Dimensions → Bool
+badSizes source crop target = badSize source || badSize target || emptyCrop crop
+
 abbrev pub wrongSizes : Dimensions → Rect → Dimensions → Cause
-wrongSizes source crop target = cause (badSize source || badSize target || emptyCrop crop) InvalidDimensions
+wrongSizes source crop target = cause (badSizes source crop target) InvalidDimensions
 
 -- 2. A crop side above 16,384 is 2, since no source side is.
 abbrev pub cropOutside : Rect → Dimensions → Cause
 cropOutside crop source = cause (cropBeyond crop source) CropOutOfBounds
 
--- what every call that is lent a source, its crop and a target tests first
+-- 10: "A lane count outside 1 to 4"
+unfoldable pub badLanes : ℕ → Bool
+badLanes lanes = eqb lanes 0 || ltb maxLanes lanes
+
+abbrev pub wrongLanes : ℕ → Cause
+wrongLanes lanes = cause (badLanes lanes) InvalidLanes
+
+-- what every call that is lent a source, its crop and a target tests first; a plane's start has 10 between the two
 abbrev pub sizesCauses : Dimensions → Rect → Dimensions → List Cause
 sizesCauses source crop target = wrongSizes source crop target ∷ cropOutside crop source ∷ []
 
@@ -78,6 +92,11 @@ sizesNumber source crop target = first (sizesCauses source crop target)
 pub record Side (side : ℕ) : Type 0 where
   pub some : 1 ≤ side
   pub most : side ≤ maxSide
+
+-- a lane count from 1 to 4
+pub record LaneCount (lanes : ℕ) : Type 0 where
+  pub some : 1 ≤ lanes
+  pub most : lanes ≤ maxLanes
 
 pub record Fits (source : Dimensions) (crop : Rect) (target : Dimensions) : Type 0 where
   pub source-width : Side (source .width)

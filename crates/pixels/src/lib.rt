@@ -12,6 +12,9 @@ pub const MAX_DIMENSION: u32 = 16384;
 // The lanes of a pixel, a byte each: blue, green, red, alpha.
 pub const PIXEL_LANES: usize = 4;
 
+// The most lanes that a plane has.
+pub const MAX_LANES: u32 = 4;
+
 pub struct Dimensions {
     pub width: u32,
     pub height: u32,
@@ -45,6 +48,8 @@ pub enum Refusal {
     AllAccepted,
     // a take with none ready
     NoneReady,
+    // a plane of no lanes, or of more than MAX_LANES
+    InvalidLanes,
 }
 
 // Whether what was asked may be done, or why not.

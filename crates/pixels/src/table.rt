@@ -18,6 +18,7 @@ impl Refusal {
             Refusal::RowReady => 7,
             Refusal::AllAccepted => 8,
             Refusal::NoneReady => 9,
+            Refusal::InvalidLanes => 10,
         }
     }
 }

@@ -17,13 +17,13 @@ ghost use Rattle.pixels.specs.Refusals.{checkedNumber, flaggedNumber, flaggedFl
 ghost use Rattle.pixels.specs.Sizes.{pixelLanes, pictureBytes, Fits};
 ghost use Rattle.pixels_crop.specs.Crop.{windowOf, cropped, cropNumber, cropFlag, cropOut};
 
-// The crop window of a row: width pixels from pixel x on, a part of that same row; the empty part where they do not lie in it.
+// The crop window of a row of any lane count: width pixels from pixel x on, a part of that same row; the empty part where they do not lie in it.
 // Rules out: a window too far to the left; one that ends with its row lost.
-pub fn window(row: &[u8], x: u32, width: u32) -> &[u8]
-    ensures { λ r. ⌜ now r ≡ windowOf pixelLanes (now (row .entry)) x width ⌝ }
+pub fn window(lanes: u32, row: &[u8], x: u32, width: u32) -> &[u8]
+    ensures { λ r. ⌜ now r ≡ windowOf lanes (now (row .entry)) x width ⌝ }
 {
-    let at = PIXEL_LANES * (x as usize);
-    let len = PIXEL_LANES * (width as usize);
+    let at = lanes as usize * x as usize;
+    let len = lanes as usize * width as usize;
     if row.len() < at {
         return &row[0..0];
     }
@@ -56,7 +56,11 @@ fn crop_into(source: Dimensions, rect: Rect, pixels: &[u8], out: &mut [u8])
         let w = PIXEL_LANES * (source.width as usize);
         let at = w * (rect.y as usize + i);
         let to = PIXEL_LANES * (rect.width as usize) * i;
-        copy_at(out, to, window(&pixels[at..at + w], rect.x, rect.width));
+        copy_at(
+            out,
+            to,
+            window(PIXEL_LANES as u32, &pixels[at..at + w], rect.x, rect.width),
+        );
         i += 1;
     }
 }

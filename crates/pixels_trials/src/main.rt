@@ -126,11 +126,15 @@ fn pictures() {
     windows();
 }
 
-// A part of a row of four pixels: three from the second on, and four, which do not lie in it.
+// A part of a row of four pixels: three from the second on, and four, which do not lie in it. The same bytes as eight pixels of two lanes; and lanes and a place
+// whose product is the largest.
 fn windows() {
     let row = [0u8; 16];
-    count(pixels_crop::window(&row, 1, 3).len());
-    count(pixels_crop::window(&row, 1, 4).len());
+    count(pixels_crop::window(4, &row, 1, 3).len());
+    count(pixels_crop::window(4, &row, 1, 4).len());
+    count(pixels_crop::window(2, &row, 1, 3).len());
+    count(pixels_crop::window(2, &row, 1, 7).len());
+    count(pixels_crop::window(4294967295, &row, 4294967295, 4294967295).len());
 }
 
 fn two_by_two() -> Dimensions {

@@ -1,17 +1,18 @@
--- A row of a job that was started has at most 65,536 bytes, source and preview, since `start` refuses a side above 16,384. Assumes nothing.
+-- A row of a job that was started has at most 65,536 bytes, source and preview, since `start` refuses a side above 16,384 and more than four lanes. Assumes
+-- nothing.
 use Prim.Native.Nat.{ℕ, _≤_}
 use mathlib.Core.Path.{_≡_, sym, _∙_, ap}
-use native.Mathlib.Omega.{arith}
+use native.Mathlib.Nat.{mul-le-mul}
 use lib.ListN.{replicate, length-replicate}
 use Rattle.pixels.specs.Sizes.{rowBytes}
 use Rattle.job_rules.specs.declared.Plan.{Plan}
 use Rattle.job_rules.specs.Rules.{lanesOf, startNumber}
 use Rattle.job.specs.declared.Job.{Job}
-use Rattle.job.specs.declared.Started.{Started}
-use Rattle.job.specs.declared.Started.the-variants as started
-use Rattle.job.specs.Answers.{startedNumber, startedJob}
 use Rattle.job.specs.Record.{fresh}
-use Rattle.job.proofs.Views.{start-went}
+use Rattle.job_start.specs.declared.Started.{Started}
+use Rattle.job_start.specs.declared.Started.the-variants as started
+use Rattle.job_start.specs.Start.{startedNumber, startedJob}
+use Rattle.job_start.proofs.Starting.{start-went}
 
 pub record RowsFit (j : Job) : Type 0 where
   pub source : rowBytes (lanesOf (j .plan)) (j .plan .source .width) ≤ 65536
@@ -20,6 +21,7 @@ pub record RowsFit (j : Job) : Type 0 where
 pub rows-fit : (p : Plan) (n : ℕ) (r : Started) (j : Job) → startedNumber r ≡ startNumber p n → startedJob (fresh p) r ≡ fresh p → r ≡ started.Fresh j → RowsFit j
 rows-fit p n r j told is e =
     let went = start-went p (replicate n 0) (ap (startNumber p) (length-replicate n 0) ∙ sym told ∙ ap startedNumber e) in
+    let lanes = went .lane-count .most in
     let same : fresh p ≡ j = sym is ∙ ap (startedJob (fresh p)) e in
-    let fits : RowsFit (fresh p) = record { source = omega (arith, went .sizes .source-width .most); target = omega (arith, went .sizes .target-width .most) } in
+    let fits : RowsFit (fresh p) = record { source = mul-le-mul lanes (went .sizes .source-width .most); target = mul-le-mul lanes (went .sizes .target-width .most) } in
     rw same at fits

@@ -3,10 +3,13 @@
 // A target side of 0 is derived from the crop's size. What goes wrong is said in one line on standard error.
 use job::Job;
 use job::Offered;
-use job::Started;
 use job::Taken;
+use job_rules::Kind;
 use job_rules::Plan;
 use job_rules::check_start;
+use job_rules::row_bytes;
+use job_start::Started;
+use job_start::start;
 use libc::STDERR_FILENO;
 use libc::STDIN_FILENO;
 use libc::STDOUT_FILENO;
@@ -190,8 +193,8 @@ fn say_refusal(why: Refusal) {
 fn run_job(job: Job, row: &mut [u8], out: &mut [u8], work: &mut [u32]) -> bool
     requires { ⌜ (rowBytes (lanesOf (job .plan)) (job .plan .source .width) ≤ length (now row)) × (rowBytes (lanesOf (job .plan)) (job .plan .target .width) ≤ length (now out)) ⌝ }
 {
-    let w = PIXEL_LANES * job.plan.source.width as usize;
-    let m = PIXEL_LANES * job.plan.target.width as usize;
+    let w = row_bytes(job.plan, job.plan.source.width);
+    let m = row_bytes(job.plan, job.plan.target.width);
     run_rows(job, &mut row[..w], &mut out[..m], work)
 }
 
@@ -210,7 +213,7 @@ fn scale(source: Dimensions, crop: Rect, target: Dimensions) {
     let mut row = [0u8; 65536];
     let mut out = [0u8; 65536];
     let mut work = [0u32; 131072];
-    let started = job::start(source, PixelLayout::Rgba8, crop, target, &mut work);
+    let started = start(source, PixelLayout::Rgba8, crop, target, &mut work);
     match started {
         Started::Refused { why } => say_refusal(why),
         Started::Fresh { job } => close(run_job(job, &mut row, &mut out, &mut work)),
@@ -248,6 +251,8 @@ fn preview(source: Dimensions, crop: Rect, width: u32, height: u32) {
             width: either(width, height),
             height: either(height, width),
         },
+        kind: Kind::Picture,
+        lanes: PIXEL_LANES as u32,
     };
     let checked = check_start(plan, 131072);
     match checked {

@@ -2,8 +2,9 @@
 // there are and how many differ.
 use job::Job;
 use job::Offered;
-use job::Started;
 use job::Taken;
+use job_start::Started;
+use job_start::start;
 use libc::STDOUT_FILENO;
 use pixels::Dimensions;
 use pixels::Flagged;
@@ -229,7 +230,7 @@ fn run_job(e: Entry, fresh: Job, row: &mut [u8], out: &mut [u8], work: &mut [u32
 
 fn by_rows(e: Entry, row: &mut [u8], out: &mut [u8], work: &mut [u32]) -> Answer {
     let layout = e.layout;
-    let started = job::start(e.source, layout, e.crop, e.target, work);
+    let started = start(e.source, layout, e.crop, e.target, work);
     match started {
         Started::Refused { why } => refused(why),
         Started::Fresh { job } => run_job(e, job, row, out, work),

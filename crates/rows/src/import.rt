@@ -18,8 +18,9 @@ ghost use Rattle.arithmetic.specs.Word.{wrapAdd, wrapMul};
 ghost use Rattle.pixels.specs.Sizes.{maxSide, pixelLanes};
 ghost use Rattle.pixels.specs.Refusals.{checkedNumber};
 ghost use Rattle.rows_tests.specs.Tests.{importNumber};
+ghost use Rattle.rows.specs.Column.{Finished};
 ghost use Rattle.rows.specs.Import.{importHalf};
-ghost use Rattle.rows.specs.Inner.Import.{at, Four, stored, laneBytes, byteAt, mattedAt, PixelAsks, Within, InLanes, GatherAsks, Gathers, Finished, ColumnAsks, Columns, writtenRow, RowAsks, AdvanceAsks, Advances};
+ghost use Rattle.rows.specs.Inner.Import.{at, Four, stored, laneBytes, byteAt, mattedAt, PixelAsks, Within, InLanes, GatherAsks, Gathers, ColumnAsks, Columns, writtenRow, RowAsks, AdvanceAsks, Advances};
 
 // A number for each lane, or for each byte of a pixel.
 struct Quad {
@@ -147,14 +148,15 @@ fn gather(row: &[u8], m: usize, need: usize, from: usize, pa: usize) -> Gathered
     }
 }
 
-struct Ended {
-    value: u32,
-    carry: u32,
+// A column's value, and what it carries to the next.
+pub struct Ended {
+    pub value: u32,
+    pub carry: u32,
 }
 
 // The value and the carry of one lane: what `over` parts of the last pixel are goes to the next column. The Rust: frac_part, frow[x_out] and sum of
-// Rescaler::import_row_shrink.
-fn finish(m: u32, scale: u32, over: u32, sum: u32, last: u32) -> Ended
+// Rescaler::import_row_shrink. Rules out: a carry rounded down; the carry of the total.
+pub fn finish(m: u32, scale: u32, over: u32, sum: u32, last: u32) -> Ended
     ensures { λ r. ⌜ Finished m scale over sum last (r .value) (r .carry) ⌝ }
 {
     let part = wrapping_mul(last, over);
@@ -332,10 +334,16 @@ pub fn import_row(
     row: &[u8],
     half: &mut [u32],
 ) -> Checked
-    ensures number { λ r. ⌜ checkedNumber r ≡ importNumber «crop_width» «target_width» (length (now (row .entry))) (length (now (half .entry))) ⌝ }
+    ensures number { λ r. ⌜ checkedNumber r ≡ importNumber pixelLanes «crop_width» «target_width» (length (now (row .entry))) (length (now (half .entry))) ⌝ }
     ensures half { λ _. ⌜ now (half .exit) ≡ importHalf layout «crop_width» «target_width» (now (row .entry)) (now (half .entry)) ⌝ }
 {
-    let checked = check_import(crop_width, target_width, row.len(), half.len());
+    let checked = check_import(
+        PIXEL_LANES as u32,
+        crop_width,
+        target_width,
+        row.len(),
+        half.len(),
+    );
     match checked {
         Checked::Refused(_) => {}
         Checked::Fit => {

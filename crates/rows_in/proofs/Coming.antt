@@ -9,7 +9,8 @@ use borrow.Author.Tests.{le-leb, lt-leb, lt-ltb, le-ltb}
 use Rattle.pixels.specs.declared.Dimensions.{Dimensions}
 use Rattle.pixels.specs.declared.Rect.{Rect}
 use Rattle.pixels.specs.Sizes.{sizeOf}
-use Rattle.pixels_layout.specs.declared.PixelLayout.{PixelLayout}
+use Rattle.rows_form.specs.declared.RowForm.{RowForm}
+use Rattle.rows_form.specs.Form.{lanesIn}
 use Rattle.rows_adding.specs.Put.{putNumber, putWork}
 use Rattle.rows_in.specs.In.{inCrop, partOf, inNumber, inWork}
 
@@ -23,20 +24,20 @@ module _ (crop : Rect) (s : ℕ) where
   pub crop-inside : crop .y ≤ s → s - crop .y < crop .height → inCrop crop s ≡ true
   crop-inside a l = simp (le-leb (crop .y) s a, lt-ltb s (crop .y + crop .height) (omega arith))
 
-module _ (layout : PixelLayout) (crop : Rect) (target : Dimensions) (s : ℕ) (row work : List ℕ) where
+module _ (form : RowForm) (crop : Rect) (target : Dimensions) (s : ℕ) (row work : List ℕ) where
   abbrev size : Dimensions
   size = sizeOf (crop .width) (crop .height)
 
   -- number and work rows, as the contract states them
   abbrev pub Answer : ℕ → List ℕ → Type 0
-  Answer n next = (n ≡ inNumber crop target s row (length work)) × (next ≡ inWork layout crop target s row work)
+  Answer n next = (n ≡ inNumber (lanesIn form) crop target s row (length work)) × (next ≡ inWork form crop target s row work)
 
   pub in-beside : inCrop crop s ≡ false → Answer 0 work
   unfolding inNumber inWork
   in-beside o = (simp o, simp o)
 
   -- part is what the code has for the window
-  pub in-put : inCrop crop s ≡ true → (part : List ℕ) → part ≡ partOf crop row → (n : ℕ) (next : List ℕ) → n ≡ putNumber size target (length part) (length work)
-      → next ≡ putWork layout size target (s - crop .y) part work → Answer n next
+  pub in-put : inCrop crop s ≡ true → (part : List ℕ) → part ≡ partOf (lanesIn form) crop row → (n : ℕ) (next : List ℕ) → n ≡ putNumber (lanesIn form) size target (length part) (length work)
+      → next ≡ putWork form size target (s - crop .y) part work → Answer n next
   unfolding inNumber inWork
   in-put o part part-is n next n-is next-is = (rw part-is at n-is ∙ sym (simp o), rw part-is at next-is ∙ sym (simp o))

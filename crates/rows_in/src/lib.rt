@@ -3,25 +3,26 @@ use pixels::Checked;
 use pixels::Dimensions;
 use pixels::Rect;
 use pixels_crop::window;
-use pixels_layout::PixelLayout;
 use rows_adding::put_row;
+use rows_form::RowForm;
 ghost use mathlib.Core.Path.{_≡_};
 ghost use lib.ListN.{length};
 ghost use Rattle.pixels.specs.Refusals.{checkedNumber};
+ghost use Rattle.rows_form.specs.Form.{lanesIn};
 ghost use Rattle.rows_in.specs.In.{inNumber, inWork};
 
 // Source row s: above and below the crop nothing happens; inside it, its crop window, a part of the row as lent, is put into the work rows.
 // Rules out: the row under the crop's last put too; a window from the source's left edge.
 pub fn put_source_row(
-    layout: PixelLayout,
+    form: RowForm,
     crop: Rect,
     target: Dimensions,
     s: u32,
     row: &[u8],
     work: &mut [u32],
 ) -> Checked
-    ensures number { λ r. ⌜ checkedNumber r ≡ inNumber crop target s (now (row .entry)) (length (now (work .entry))) ⌝ }
-    ensures work { λ _. ⌜ now (work .exit) ≡ inWork layout crop target s (now (row .entry)) (now (work .entry)) ⌝ }
+    ensures number { λ r. ⌜ checkedNumber r ≡ inNumber (lanesIn form) crop target s (now (row .entry)) (length (now (work .entry))) ⌝ }
+    ensures work { λ _. ⌜ now (work .exit) ≡ inWork form crop target s (now (row .entry)) (now (work .entry)) ⌝ }
 {
     if s < crop.y {
         return Checked::Fit;
@@ -30,10 +31,10 @@ pub fn put_source_row(
     if crop.height <= c {
         return Checked::Fit;
     }
-    let part = window(row, crop.x, crop.width);
+    let part = window(form.lanes(), row, crop.x, crop.width);
     let size = Dimensions {
         width: crop.width,
         height: crop.height,
     };
-    put_row(layout, size, target, c, part, work)
+    put_row(form, size, target, c, part, work)
 }

@@ -12,7 +12,7 @@ use Rattle.arithmetic.proofs.Weights.{span-shrink, span-grow}
 use Rattle.pixels.specs.declared.Dimensions.{Dimensions}
 use Rattle.pixels.specs.declared.Refusal.{Refusal}
 use Rattle.pixels.specs.Refusals.{number}
-use Rattle.pixels.specs.Sizes.{pixelLanes, halfValues}
+use Rattle.pixels.specs.Sizes.{halfValues}
 use Rattle.pixels.proofs.Numbers.{buffer-refused}
 use Rattle.pixels.proofs.Fitting.{size-of}
 use Rattle.rows.specs.WorkRows.{scaleOf, byteOut, rowLeft}
@@ -28,18 +28,18 @@ span-some : (n m : ℕ) → 1 ≤ n → 1 ≤ span n m
 span-some n m p =
     ⊎-elim (λ h. rw (span-shrink n m h) p) (λ h. rw (span-grow n m h) (omega arith)) (le-or-lt m n)
 
-module _ (crop target : Dimensions) (u y : ℕ) (out work : List ℕ) where
+module _ (lanes : ℕ) (crop target : Dimensions) (u y : ℕ) (out work : List ℕ) where
   abbrev result : ℕ
-  result = scaleNumber crop target u y (length out) (length work)
+  result = scaleNumber lanes crop target u y (length out) (length work)
 
   -- number, output and work rows, as the contract states them
   abbrev pub Answer : ℕ → List ℕ → List ℕ → Type 0
-  Answer n out′ work′ = (n ≡ result) × ((out′ ≡ scaledOut crop target u y out work) × (work′ ≡ scaledWork crop target u y (length out) work))
+  Answer n out′ work′ = (n ≡ result) × ((out′ ≡ scaledOut lanes crop target u y out work) × (work′ ≡ scaledWork lanes crop target u y (length out) work))
 
   -- ---- a row that is made, and one that is not
   pub scale-made : result ≡ 0
-      → (scaledOut crop target u y out work ≡ tabulate (byteOut (scaleOf crop target) u y work) (scaleOf crop target .w))
-      × (scaledWork crop target u y (length out) work ≡ rowLeft (scaleOf crop target) u y work)
+      → (scaledOut lanes crop target u y out work ≡ tabulate (byteOut (scaleOf lanes crop target) u y work) (scaleOf lanes crop target .w))
+      × (scaledWork lanes crop target u y (length out) work ≡ rowLeft (scaleOf lanes crop target) u y work)
   unfolding scaledOut scaledWork
   scale-made e = (simp e, simp e)
 
@@ -50,10 +50,10 @@ module _ (crop target : Dimensions) (u y : ℕ) (out work : List ℕ) where
   -- ---- past the tests; sp is what the code has for the span
   module _ (e : 0 ≡ result) {sp : ℕ} (sp-is : sp ≡ span (crop .width) (target .width)) where
     abbrev by : RowScale
-    by = record { span = sp; h = crop .height; g = target .height; w = halfValues pixelLanes (target .width) }
+    by = record { span = sp; h = crop .height; g = target .height; w = halfValues lanes (target .width) }
 
-    passed : Passed crop target u y (length out) (length work)
-    passed = passed-of crop target u y (length out) (length work) (sym e)
+    passed : Passed lanes crop target u y (length out) (length work)
+    passed = passed-of lanes crop target u y (length out) (length work) (sym e)
 
     goes : valuesNumber by u y (length out) (length work) ≡ 0
     goes =

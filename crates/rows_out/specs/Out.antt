@@ -8,10 +8,9 @@ use Rattle.arithmetic.specs.Table.{tabulate}
 use Rattle.pixels.specs.declared.Dimensions.{Dimensions}
 use Rattle.pixels.specs.declared.Rect.{Rect}
 use Rattle.pixels.specs.Refusals.{flagIf, bufferIf}
-use Rattle.pixels.specs.Sizes.{pixelLanes, rowBytes, sizeOf}
-use Rattle.pixels_layout.specs.declared.PixelLayout.{PixelLayout}
-use Rattle.pixels_layout.specs.Lanes.{restoredPlace}
-use Rattle.pixels_alpha.specs.Alpha.{hasAlpha}
+use Rattle.pixels.specs.Sizes.{rowBytes, sizeOf}
+use Rattle.rows_form.specs.declared.RowForm.{RowForm}
+use Rattle.rows_form.specs.Form.{lanesIn, placeOut, flagIn}
 use Rattle.rows_schedule.specs.Schedule.{used}
 use Rattle.rows.specs.WorkRows.{scaleOf, byteOut}
 use Rattle.rows_tests.specs.Tests.{scaleNumber}
@@ -24,23 +23,23 @@ cropSize crop = sizeOf (crop .width) (crop .height)
 abbrev pub usedOf : Rect → ℕ → ℕ
 usedOf crop k = used (crop .y) (crop .height) k
 
--- 1, 4, 5 and 9, of n bytes of output and w work values
-abbrev pub outNumber : Rect → Dimensions → ℕ → ℕ → ℕ → ℕ → ℕ
-outNumber crop target k y n w = scaleNumber (cropSize crop) target (usedOf crop k) y n w
+-- 1, 10, 4, 5 and 9, of so many lanes, n bytes of output and w work values
+abbrev pub outNumber : ℕ → Rect → Dimensions → ℕ → ℕ → ℕ → ℕ → ℕ
+outNumber lanes crop target k y n w = scaleNumber lanes (cropSize crop) target (usedOf crop k) y n w
 
--- the row: its lanes B, G, R, A restored and packed
-unfoldable pub rowMade : PixelLayout → Rect → Dimensions → ℕ → ℕ → List ℕ → List ℕ
-rowMade layout crop target k y work =
-    tabulate (restoredPlace layout (byteOut (scaleOf (cropSize crop) target) (usedOf crop k) y work)) (rowBytes pixelLanes (target .width))
+-- the row: a picture's lanes restored and packed, a plane's as they are
+unfoldable pub rowMade : RowForm → Rect → Dimensions → ℕ → ℕ → List ℕ → List ℕ
+rowMade form crop target k y work =
+    tabulate (placeOut form (byteOut (scaleOf (lanesIn form) (cropSize crop) target) (usedOf crop k) y work)) (rowBytes (lanesIn form) (target .width))
 
-unfoldable pub outFlag : PixelLayout → Rect → Dimensions → ℕ → ℕ → ℕ → List ℕ → Bool
-outFlag layout crop target k y n work =
-    flagIf (outNumber crop target k y n (length work)) (hasAlpha layout (rowMade layout crop target k y work) (target .width))
+unfoldable pub outFlag : RowForm → Rect → Dimensions → ℕ → ℕ → ℕ → List ℕ → Bool
+outFlag form crop target k y n work =
+    flagIf (outNumber (lanesIn form) crop target k y n (length work)) (flagIn form (rowMade form crop target k y work) (target .width))
 
 -- the output and the work rows: as they were where the row is refused
-unfoldable pub outRow : PixelLayout → Rect → Dimensions → ℕ → ℕ → List ℕ → List ℕ → List ℕ
-outRow layout crop target k y out work =
-    bufferIf (outNumber crop target k y (length out) (length work)) (rowMade layout crop target k y work) out
+unfoldable pub outRow : RowForm → Rect → Dimensions → ℕ → ℕ → List ℕ → List ℕ → List ℕ
+outRow form crop target k y out work =
+    bufferIf (outNumber (lanesIn form) crop target k y (length out) (length work)) (rowMade form crop target k y work) out
 
-abbrev pub outWork : Rect → Dimensions → ℕ → ℕ → ℕ → List ℕ → List ℕ
-outWork crop target k y n work = scaledWork (cropSize crop) target (usedOf crop k) y n work
+abbrev pub outWork : ℕ → Rect → Dimensions → ℕ → ℕ → ℕ → List ℕ → List ℕ
+outWork lanes crop target k y n work = scaledWork lanes (cropSize crop) target (usedOf crop k) y n work

@@ -1,10 +1,10 @@
 // The tests of a row that comes in and of one that goes out, in the order of their numbers (SCOPE, "Why a call is turned away").
 use pixels::Checked;
 use pixels::Dimensions;
-use pixels::PIXEL_LANES;
 use pixels::Refusal;
 use pixels::bad_side;
 use pixels::bad_size;
+use pixels_sizes::bad_lanes;
 use rows_due::due;
 ghost use mathlib.Core.Path.{_≡_};
 ghost use Rattle.pixels.specs.Refusals.{checkedNumber};
@@ -18,10 +18,16 @@ pub struct RowScale {
     pub w: usize,
 }
 
-// Those of `import_row`, of a row of `bytes` bytes and a half of `room` values.
+// Those of a row that comes in, of so many lanes, `bytes` bytes and a half of `room` values.
 // Rules out: a crop of the largest width refused; 5 told before 3.
-pub fn check_import(crop_width: u32, target_width: u32, bytes: usize, room: usize) -> Checked
-    ensures { λ r. ⌜ checkedNumber r ≡ importNumber «crop_width» «target_width» bytes room ⌝ }
+pub fn check_import(
+    lanes: u32,
+    crop_width: u32,
+    target_width: u32,
+    bytes: usize,
+    room: usize,
+) -> Checked
+    ensures { λ r. ⌜ checkedNumber r ≡ importNumber lanes «crop_width» «target_width» bytes room ⌝ }
 {
     if bad_side(crop_width as u64) {
         return Checked::Refused(Refusal::InvalidDimensions);
@@ -29,10 +35,13 @@ pub fn check_import(crop_width: u32, target_width: u32, bytes: usize, room: usiz
     if bad_side(target_width as u64) {
         return Checked::Refused(Refusal::InvalidDimensions);
     }
-    if bytes != PIXEL_LANES * crop_width as usize {
+    if bad_lanes(lanes) {
+        return Checked::Refused(Refusal::InvalidLanes);
+    }
+    if bytes != lanes as usize * crop_width as usize {
         return Checked::Refused(Refusal::PixelBufferMismatch);
     }
-    if room < PIXEL_LANES * target_width as usize {
+    if room < lanes as usize * target_width as usize {
         return Checked::Refused(Refusal::WorkLength);
     }
     Checked::Fit
@@ -41,6 +50,7 @@ pub fn check_import(crop_width: u32, target_width: u32, bytes: usize, room: usiz
 // Those of `scale_row`, of an output of `out` bytes and `work` work values.
 // Rules out: 5 told before 4; a row made before its crop rows are in.
 pub fn check_scale(
+    lanes: u32,
     crop: Dimensions,
     target: Dimensions,
     used: u32,
@@ -48,7 +58,7 @@ pub fn check_scale(
     out: usize,
     work: usize,
 ) -> Checked
-    ensures { λ r. ⌜ checkedNumber r ≡ scaleNumber crop target used row out work ⌝ }
+    ensures { λ r. ⌜ checkedNumber r ≡ scaleNumber lanes crop target used row out work ⌝ }
 {
     if bad_size(crop) {
         return Checked::Refused(Refusal::InvalidDimensions);
@@ -56,7 +66,10 @@ pub fn check_scale(
     if bad_size(target) {
         return Checked::Refused(Refusal::InvalidDimensions);
     }
-    let w = PIXEL_LANES * target.width as usize;
+    if bad_lanes(lanes) {
+        return Checked::Refused(Refusal::InvalidLanes);
+    }
+    let w = lanes as usize * target.width as usize;
     let both = 2 * w;
     if out != w {
         return Checked::Refused(Refusal::OutputLength);

@@ -1,10 +1,13 @@
-// Runs the trials of SCOPE that are not proved, the edges of fixed point, matte and restore, and one job offered in three ways. The file `stdout` holds
-// what SCOPE says: numbers in hexadecimal; pixels too, byte after byte; a size as width and height.
+// Runs the trials of SCOPE that are not proved, the edges of fixed point, matte and restore, one job offered in three ways, and planes. The file `stdout`
+// holds what SCOPE says: numbers in hexadecimal; pixels too, byte after byte; a size as width and height.
 use job::Job;
 use job::Offered;
-use job::Started;
 use job::Taken;
+use job_rules::Kind;
 use job_rules::Plan;
+use job_rules::row_bytes;
+use job_start::Started;
+use job_start::start;
 use pixels::Dimensions;
 use pixels::PIXEL_LANES;
 use pixels::Rect;
@@ -12,6 +15,9 @@ use pixels::Refusal;
 use pixels::Sized;
 use pixels_layout::PixelLayout;
 ghost use Prim.Native.Nat.{_≤_};
+
+mod planes;
+mod turned_away;
 
 fn main() {
     mattes();
@@ -21,6 +27,8 @@ fn main() {
     sizes();
     small_cuts();
     large_cuts();
+    planes::trials();
+    turned_away::trials();
 }
 
 // ---- numbers
@@ -140,8 +148,7 @@ fn scale_in_cuts(target: Dimensions, rows: u32, ragged: u32, pixels: &[u8]) {
     };
     let begun = begin(source, target, &mut work);
     let done = turns(begun, rows, ragged, pixels, &mut work, &mut out);
-    picture_line(target.width, target.height, &out);
-    count_line(done);
+    job_lines(done, &out);
 }
 
 // Each turn offers a cut and takes a row; a call that is turned away leaves all as it was. 64 turns are more than 7 rows in and 11 out need.
@@ -173,10 +180,10 @@ fn cut_of(rows: u32, ragged: u32, i: u32) -> u32 {
 
 // The next rows that the job has not accepted, at most to the picture's end.
 fn offer_cut(job: Job, rows: u32, pixels: &[u8], work: &mut [u32]) -> Job {
-    let width = job.plan.source.width;
-    let at = place(width, job.accepted, pixels.len());
+    let row = row_bytes(job.plan, job.plan.source.width);
+    let at = place(row, job.accepted, pixels.len());
     let end = place(
-        width,
+        row,
         std::num::wrapping_add_u32(job.accepted, rows),
         pixels.len(),
     );
@@ -189,9 +196,9 @@ fn offer_cut(job: Job, rows: u32, pixels: &[u8], work: &mut [u32]) -> Job {
 
 // The next row, at its place in the preview.
 fn take_row(job: Job, work: &mut [u32], out: &mut [u8]) -> Job {
-    let width = job.plan.target.width;
-    let at = place(width, job.taken, out.len());
-    let end = place(width, std::num::wrapping_add_u32(job.taken, 1), out.len());
+    let row = row_bytes(job.plan, job.plan.target.width);
+    let at = place(row, job.taken, out.len());
+    let end = place(row, std::num::wrapping_add_u32(job.taken, 1), out.len());
     if end < at {
         return job;
     }
@@ -199,15 +206,17 @@ fn take_row(job: Job, work: &mut [u32], out: &mut [u8]) -> Job {
     took(answer)
 }
 
-// Where row k starts, or the end of the bytes where that is before it.
-fn place(width: u32, k: u32, len: usize) -> usize
+// Where row k starts, of `row` bytes each, or the end of the bytes where that is before it.
+fn place(row: usize, k: u32, len: usize) -> usize
     ensures { λ r. ⌜ r ≤ len ⌝ }
 {
-    let pixel = width as usize * k as usize;
-    if len / PIXEL_LANES < pixel {
+    if row == 0 {
+        return 0;
+    }
+    if len / row < k as usize {
         return len;
     }
-    PIXEL_LANES * pixel
+    row * k as usize
 }
 
 // Colours and alphas of every size.
@@ -221,15 +230,25 @@ fn fill(pixels: &mut [u8]) {
 
 // ---- answers
 
-// A fresh job with the full crop. A refusal is written, and the record of it turns every call away.
+// A fresh job with the full crop.
 fn begin(source: Dimensions, target: Dimensions, work: &mut [u32]) -> Job {
-    let crop = Rect {
+    let crop = whole(source);
+    let started = start(source, PixelLayout::Rgba8, crop, target, work);
+    begun(started, source, target)
+}
+
+// The full crop.
+fn whole(source: Dimensions) -> Rect {
+    Rect {
         x: 0,
         y: 0,
         width: source.width,
         height: source.height,
-    };
-    let started = job::start(source, PixelLayout::Rgba8, crop, target, work);
+    }
+}
+
+// The job that was started. A refusal is written, and the record of it turns every call away.
+fn begun(started: Started, source: Dimensions, target: Dimensions) -> Job {
     match started {
         Started::Fresh { job } => job,
         Started::Refused { why } => {
@@ -238,8 +257,10 @@ fn begin(source: Dimensions, target: Dimensions, work: &mut [u32]) -> Job {
                 plan: Plan {
                     source: source,
                     layout: PixelLayout::Rgba8,
-                    crop: crop,
+                    crop: whole(source),
                     target: target,
+                    kind: Kind::Picture,
+                    lanes: PIXEL_LANES as u32,
                 },
                 accepted: 0,
                 taken: 0,
@@ -293,9 +314,19 @@ fn refused_line(why: Refusal) {
     io::write_all(1, b"\n");
 }
 
-// The first width × height pixels.
-fn picture_line(width: u32, height: u32, bytes: &[u8]) {
-    let end = place(width, height, bytes.len());
+// What a job has made, and its counts.
+fn job_lines(job: Job, bytes: &[u8]) {
+    picture_line(
+        row_bytes(job.plan, job.plan.target.width),
+        job.plan.target.height,
+        bytes,
+    );
+    count_line(job);
+}
+
+// The first so many rows.
+fn picture_line(row: usize, height: u32, bytes: &[u8]) {
+    let end = place(row, height, bytes.len());
     hex_line(&bytes[..end]);
 }
 
@@ -306,6 +337,20 @@ fn hex_line(bytes: &[u8]) {
         i += 1;
     }
     io::write_all(1, b"\n");
+}
+
+// Work values, the low byte of each.
+fn words_line(words: &[u32]) {
+    let mut i = 0;
+    while i < words.len() {
+        io::print_hex(1, low(words[i]), 2);
+        i += 1;
+    }
+    io::write_all(1, b"\n");
+}
+
+fn low(x: u32) -> u64 {
+    x as u64 % 256
 }
 
 fn wide(x: u8) -> u64 {

@@ -10,6 +10,9 @@ layout-word-requires c κs = search needs
 flag-word-requires : tie.Need-flag-word-requires
 flag-word-requires c κs = search needs
 
+kind-word-requires : tie.Need-kind-word-requires
+kind-word-requires c κs = search needs
+
 slice-aggregate-store : tie.Need-slice-aggregate-store
 slice-aggregate-store c = search needs
 
@@ -22,10 +25,11 @@ same-length c = search needs
 returns : tie.Need-returns
 returns c =
     let b = c .before .before .before .before .before in
-    let g = b .before .before .before .before .args in
-    let l = b .before .layout-word in
-    let f = b .flag-word in
-    job-stored (g .job) (l .result) (f .result) _ (g .words .now) (l .ensures) (f .ensures) (c .before .before .store .ensures)
+    let g = b .before .before .before .before .before .args in
+    let l = b .before .before .layout-word in
+    let f = b .before .flag-word in
+    let k = b .kind-word in
+    job-stored (g .job) (l .result) (f .result) (k .result) _ (g .words .now) (l .ensures) (f .ensures) (k .ensures) (c .before .before .store .ensures)
 
 pub store-job-spec : {M : Type 1} → statement M
 store-job-spec =
@@ -33,6 +37,7 @@ store-job-spec =
     (tie.spec
     layout-word-requires
     flag-word-requires
+    kind-word-requires
     slice-aggregate-store
     store-requires
     same-length

@@ -1,10 +1,13 @@
 -- The row is due, so the layer below refuses nothing; its flag joins the record's. Assumes nothing.
 use mathlib.Core.Bool.{Bool, _||_}
 use mathlib.Core.Path.{ap, _∙_}
-use borrow.Author.Needs.{needs}
 use Rattle.job.proofs.RowOut.{row-out, flag-out, work-out}
+use borrow.Author.Needs.{needs}
 use Rattle.job.proofs.row_out.Statement.{statement}
 use Rattle.job.proofs.row_out.Tie as tie
+
+row-form-requires : tie.Need-row-form-requires
+row-form-requires c κs = search needs
 
 take-row-requires : tie.Need-take-row-requires
 take-row-requires c κs = search needs
@@ -20,13 +23,20 @@ same-length-2 c = search needs
 
 returns : tie.Need-returns
 returns c =
-    let a = c .before .before .before .before .before .before .before .before .before .before .before .args in
-    let goes = c .before .before .before .before .before .before .before .before .before .before .before .pre in
-    let made = c .before .before .before .before .before .take-row .ensures in
-    let row = row-out (a .j) (a .out .now) (a .work .now) goes _ (made .1 .1 .0) in
-    let flag = flag-out (a .j) (a .out .now) (a .work .now) goes _ (made .1 .0) in
-    let work = work-out (a .j) (a .out .now) (a .work .now) goes _ (made .1 .1 .1) in
+    let a = (c .before .before .before .before .before .before .before .before .before .before .before .before .args) in
+    let made = rw (c .before .before .before .before .before .before .before .before .row-form .ensures) at (c .before .before .before .before .before .take-row .ensures) in
+    let row = row-out (a .j) (a .out .now) (a .work .now) ((c .before .before .before .before .before .before .before .before .before .before .before .before .pre)) _ (made .1 .1 .0) in
+    let flag = flag-out (a .j) (a .out .now) (a .work .now) ((c .before .before .before .before .before .before .before .before .before .before .before .before .pre)) _ (made .1 .0) in
+    let work = work-out (a .j) (a .out .now) (a .work .now) ((c .before .before .before .before .before .before .before .before .before .before .before .before .pre)) _ (made .1 .1 .1) in
     (c .flag-after .ensures ∙ ap (λ (f : Bool). a .j .flag || f) flag, (row, work))
 
 pub row-out-spec : {M : Type 1} → statement M
-row-out-spec = tie.close (tie.spec take-row-requires flag-after-requires same-length same-length-2 returns)
+row-out-spec =
+    tie.close
+    (tie.spec
+    row-form-requires
+    take-row-requires
+    flag-after-requires
+    same-length
+    same-length-2
+    returns)

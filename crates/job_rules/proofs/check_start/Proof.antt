@@ -1,59 +1,70 @@
--- A refusal of the sizes is handed on with its number; else the work values decide. Assumes nothing.
-use mathlib.Core.List.{[], _∷_}
+-- Each return is the first cause whose test failed. Assumes nothing.
 use mathlib.Core.Path.{sym, _∙_}
+use Rattle.pixels.proofs.Causes.{first-at, first-none}
+use Rattle.job_rules.specs.Rules.{startCauses, startNumber}
 use borrow.Author.Needs.{needs}
-use Rattle.pixels.proofs.Causes.{first-at, first-none, first-past, first-stays}
-use Rattle.pixels.specs.Sizes.{sizesCauses, sizesNumber}
-use Rattle.job_rules.specs.Rules.{shortWork, startNumber}
 use Rattle.job_rules.proofs.check_start.Statement.{statement}
 use Rattle.job_rules.proofs.check_start.Tie as tie
 
-check-sizes-requires : tie.Need-check-sizes-requires
-check-sizes-requires c κs = search needs
-
-enum-known-checked : tie.Need-enum-known-checked
-enum-known-checked c = search needs
+wrong-sizes-requires : tie.Need-wrong-sizes-requires
+wrong-sizes-requires c κs = search needs
 
 returns : tie.Need-returns
-unfolding startNumber sizesNumber
-returns c =
-    let a = (c .before .before .before .before .args) in
-    let p = a .p in
-    let e = sym (rw ((c .before .checked) .given .1) at ((c .before .before .before .check-sizes) .ensures)) in
-    sym (first-stays ((c .before .checked) .given .0 .0) (sizesCauses (p .source) (p .crop) (p .target)) (shortWork p (a .work) ∷ []) e)
+unfolding startNumber
+returns c = let a = (c .before .before .args) in sym (first-at (startCauses (a .p) (a .work)) 0 tt (sym (c .before .wrong-sizes .ensures) ∙ c .if1 .taken))
 
-enum-told : tie.Need-enum-told
-enum-told c = search needs
+bad-lanes-requires : tie.Need-bad-lanes-requires
+bad-lanes-requires c κs = search needs
+
+returns-2 : tie.Need-returns-2
+unfolding startNumber
+returns-2 c =
+    let a = (c .before .before .before .before .args) in
+    let sizes = sym (c .before .before .before .wrong-sizes .ensures) ∙ c .before .before .if1 .left in
+    sym (first-at (startCauses (a .p) (a .work)) 1 (sizes, tt) (sym (c .before .bad-lanes .ensures) ∙ c .if2 .taken))
+
+crop-beyond-requires : tie.Need-crop-beyond-requires
+crop-beyond-requires c κs = search needs
+
+returns-3 : tie.Need-returns-3
+unfolding startNumber
+returns-3 c =
+    let a = (c .before .before .before .before .before .before .args) in
+    let sizes = sym (c .before .before .before .before .before .wrong-sizes .ensures) ∙ c .before .before .before .before .if1 .left in
+    let lanes = sym (c .before .before .before .bad-lanes .ensures) ∙ c .before .before .if2 .left in
+    sym (first-at (startCauses (a .p) (a .work)) 2 (sizes, (lanes, tt)) (sym (c .before .crop-beyond .ensures) ∙ c .if3 .taken))
 
 short-work-requires : tie.Need-short-work-requires
 short-work-requires c κs = search needs
 
-returns-2 : tie.Need-returns-2
-unfolding startNumber sizesNumber
-returns-2 c =
-    let a = (c .before .before .before .before .before .args) in
-    let p = a .p in
-    let z = sym (rw ((c .before .before .enum-told) .given .1) at ((c .before .before .before .before .check-sizes) .ensures)) in
-    let short = shortWork p (a .work) ∷ [] in
-    sym (first-past (sizesCauses (p .source) (p .crop) (p .target)) short z ∙ first-at short 0 tt (sym ((c .before .short-work) .ensures) ∙ (c .if1) .taken))
+returns-4 : tie.Need-returns-4
+unfolding startNumber
+returns-4 c =
+    let a = (c .before .before .before .before .before .before .before .before .args) in
+    let sizes = sym (c .before .before .before .before .before .before .before .wrong-sizes .ensures) ∙ c .before .before .before .before .before .before .if1 .left in
+    let lanes = sym (c .before .before .before .before .before .bad-lanes .ensures) ∙ c .before .before .before .before .if2 .left in
+    let crop = sym (c .before .before .before .crop-beyond .ensures) ∙ c .before .before .if3 .left in
+    sym (first-at (startCauses (a .p) (a .work)) 3 (sizes, (lanes, (crop, tt))) (sym (c .before .short-work .ensures) ∙ c .if4 .taken))
 
-returns-3 : tie.Need-returns-3
-unfolding startNumber sizesNumber
-returns-3 c =
-    let a = (c .before .before .before .before .before .args) in
-    let p = a .p in
-    let z = sym (rw ((c .before .before .enum-told) .given .1) at ((c .before .before .before .before .check-sizes) .ensures)) in
-    let short = shortWork p (a .work) ∷ [] in
-    sym (first-past (sizesCauses (p .source) (p .crop) (p .target)) short z ∙ first-none short (sym ((c .before .short-work) .ensures) ∙ (c .if1) .left, tt))
+returns-5 : tie.Need-returns-5
+unfolding startNumber
+returns-5 c =
+    let a = (c .before .before .before .before .before .before .before .before .args) in
+    let sizes = sym (c .before .before .before .before .before .before .before .wrong-sizes .ensures) ∙ c .before .before .before .before .before .before .if1 .left in
+    let lanes = sym (c .before .before .before .before .before .bad-lanes .ensures) ∙ c .before .before .before .before .if2 .left in
+    let crop = sym (c .before .before .before .crop-beyond .ensures) ∙ c .before .before .if3 .left in
+    sym (first-none (startCauses (a .p) (a .work)) (sizes, (lanes, (crop, (sym (c .before .short-work .ensures) ∙ c .if4 .left, tt)))))
 
 pub check-start-spec : {M : Type 1} → statement M
 check-start-spec =
     tie.close
     (tie.spec
-    check-sizes-requires
-    enum-known-checked
+    wrong-sizes-requires
     returns
-    enum-told
-    short-work-requires
+    bad-lanes-requires
     returns-2
-    returns-3)
+    crop-beyond-requires
+    returns-3
+    short-work-requires
+    returns-4
+    returns-5)

@@ -59,6 +59,9 @@ mul-to-2 c =
     let h : l .loop .i ≤ a .rect .height = omega arith in
     omega (arith, mul-le-mul-left (4 * a .rect .width) h)
 
+cast-window : tie.Need-cast-window Inv-loop μ-loop
+cast-window c = search needs
+
 add-window : tie.Need-add-window Inv-loop μ-loop
 add-window c =
     let l = c .before .before .before .before .before in
@@ -133,6 +136,7 @@ crop-into-spec =
     cast-to
     mul-to
     mul-to-2
+    cast-window
     add-window
     sub-window
     part-window-start

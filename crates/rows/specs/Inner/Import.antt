@@ -4,7 +4,6 @@ use Prim.Native.Nat.{ℕ, zero, suc, _+_, _-_, _*_, _≤_, _<_}
 use mathlib.Core.Path.{_≡_}
 use mathlib.Core.List.{List}
 use lib.ListN.{length, getD, set}
-use Rattle.arithmetic.specs.Word.{wrapSub, wrapMul}
 use Rattle.arithmetic.specs.FixedPoint.{MULT}
 use Rattle.arithmetic.specs.Matte.{scaleColour, matteFactor}
 use Rattle.arithmetic.specs.Sum.{sum}
@@ -93,10 +92,6 @@ pub record Gathers (s : List ℕ) (m need x pa : ℕ) (total last : Quad) (alpha
   pub alphas : Lane (byteAt s pa) x next alpha base
 
 -- ---- a column where the width does not grow
-pub record Finished (m scale over total last value carry : ℕ) : Type 0 where
-  pub value-is : value ≡ wrapSub (wrapMul total m) (wrapMul last over)
-  pub carry-is : carry ≡ MULT (wrapMul last over) scale
-
 pub record ColumnAsks (s : List ℕ) (n m x debt : ℕ) (carry : Quad) (p : Places) : Type 0 where
   pub m-pos : 0 < m
   pub m-small : m ≤ n

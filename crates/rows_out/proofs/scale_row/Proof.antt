@@ -1,4 +1,6 @@
 -- `scale_row` meets its contract: a refusal is handed on; past the tests the row is its values'. Assumes nothing.
+use native.Mathlib.Omega.{arith}
+use Rattle.arithmetic.proofs.Products.{most}
 use Rattle.rows_out.proofs.ScaleRow.{scale-refused, scale-done}
 use borrow.Author.Needs.{needs}
 use Rattle.rows_out.proofs.scale_row.Statement.{statement}
@@ -12,8 +14,8 @@ enum-known-checked c = search needs
 
 returns : tie.Need-returns
 returns c =
-    let a = c .before .before .before .before .before .before .args in
-    scale-refused (a .crop) (a .target) (a .used) (a .row) (a .out .now) (a .work .now) (c .before .checked .given .0 .0) (rw (c .before .checked .given .1) at (c .before .before .before .check-scale .ensures))
+    let a = (c .before .before .before .before .before .before .args) in
+    scale-refused (a .lanes) (a .crop) (a .target) (a .used) (a .row) (a .out .now) (a .work .now) (c .before .checked .given .0 .0) (rw (c .before .checked .given .1) at (c .before .before .before .check-scale .ensures))
 
 enum-told : tie.Need-enum-told
 enum-told c = search needs
@@ -21,11 +23,11 @@ enum-told c = search needs
 span-requires : tie.Need-span-requires
 span-requires c κs = search needs
 
-cast-t10 : tie.Need-cast-t10
-cast-t10 c = search needs
+cast-t12 : tie.Need-cast-t12
+cast-t12 c = search needs
 
-mul-t11 : tie.Need-mul-t11
-mul-t11 c = search needs
+mul-t14 : tie.Need-mul-t14
+mul-t14 c = let a = (c .before .before .before .before .before .before .before .args) in omega (arith, most {x = a .lanes} {y = a .target .width} (omega arith) (omega arith))
 
 scale-values-requires : tie.Need-scale-values-requires
 scale-values-requires c κs = search needs
@@ -38,10 +40,10 @@ same-length-2 c = search needs
 
 returns-2 : tie.Need-returns-2
 returns-2 c =
-    let a = c .before .before .before .before .before .before .before .before .before .before .before .before .before .before .args in
+    let a = (c .before .before .before .before .before .before .before .before .before .before .before .before .before .before .args) in
     let z = rw (c .before .before .before .before .before .before .before .before .before .enum-told .given .1) at (c .before .before .before .before .before .before .before .before .before .before .before .check-scale .ensures) in
     let made = c .before .before .before .before .scale-values .ensures in
-    scale-done (a .crop) (a .target) (a .used) (a .row) (a .out .now) (a .work .now) z (c .before .before .before .before .before .before .before .before .span .ensures) (made .0) (made .1 .0) (made .1 .1)
+    scale-done (a .lanes) (a .crop) (a .target) (a .used) (a .row) (a .out .now) (a .work .now) z (c .before .before .before .before .before .before .before .before .span .ensures) (made .0) (made .1 .0) (made .1 .1)
 
 pub scale-row-spec : {M : Type 1} → statement M
 scale-row-spec =
@@ -52,8 +54,8 @@ scale-row-spec =
     returns
     enum-told
     span-requires
-    cast-t10
-    mul-t11
+    cast-t12
+    mul-t14
     scale-values-requires
     same-length
     same-length-2

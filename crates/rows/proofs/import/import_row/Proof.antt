@@ -21,9 +21,9 @@ use Rattle.rows.proofs.import.import_row.Statement.{statement}
 use Rattle.rows.proofs.import.import_row.Tie as tie
 
 module _ (layout : PixelLayout) (n m : ℕ) (s half : List ℕ) (p : Places) (e : p ≡ placesOf layout) (bytes : Bytes s) where
-  asks : 0 ≡ importNumber n m (length s) (length half) → RowAsks s half n m p
+  asks : 0 ≡ importNumber pixelLanes n m (length s) (length half) → RowAsks s half n m p
   asks goes =
-      let f = import-of n m (length s) (length half) (sym goes) in
+      let f = import-of pixelLanes n m (length s) (length half) (sym goes) in
       record {
         n-pos = f .crop .some;
         n-small = f .crop .most;
@@ -36,12 +36,15 @@ module _ (layout : PixelLayout) (n m : ℕ) (s half : List ℕ) (p : Places) (e 
       }
 
   -- what was written by places is the row of the matted lanes
-  by-layout : 0 ≡ importNumber n m (length s) (length half) → (half' : List ℕ) → half' ≡ writtenRow p n m s half → half' ≡ importHalf layout n m s half
+  by-layout : 0 ≡ importNumber pixelLanes n m (length s) (length half) → (half' : List ℕ) → half' ≡ writtenRow p n m s half → half' ≡ importHalf layout n m s half
   by-layout goes half' w =
       w
       ∙ ap (λ (q : Places). writtenRow q n m s half) e
       ∙ ap (λ (f : ℕ → ℕ). written (halfValues pixelLanes m) f half) (matted-row layout s bytes n m)
       ∙ sym (import-written layout n m s half (sym goes))
+
+cast-check-import : tie.Need-cast-check-import
+cast-check-import c = search needs
 
 check-import-requires : tie.Need-check-import-requires
 check-import-requires c κs = search needs
@@ -117,6 +120,7 @@ pub import-row-spec : {M : Type 1} → statement M
 import-row-spec =
     tie.close
     (tie.spec
+    cast-check-import
     check-import-requires
     enum-told
     enum-told-2

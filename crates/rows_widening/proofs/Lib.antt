@@ -1,0 +1,3 @@
+pub mod RowBytes
+pub mod Storing
+pub mod GrowingRows

@@ -1,0 +1,28 @@
+-- `grow`: one lane, or several. Assumes nothing.
+use mathlib.Core.Path.{_≡_, sym}
+use borrow.Author.Needs.{needs}
+use Rattle.rows_widening.proofs.grow.Statement.{statement}
+use Rattle.rows_widening.proofs.grow.Tie as tie
+
+grow-lane-requires : tie.Need-grow-lane-requires
+grow-lane-requires c κs = let e = c .before .if1 .taken in (rw e at (c .before .before .before .before .pre .0), c .before .before .before .before .pre .1)
+
+same-length : tie.Need-same-length
+same-length c = search needs
+
+returns : tie.Need-returns
+returns c = let e = c .before .before .before .before .if1 .taken in rw (sym e) at (c .before .before .grow-lane .ensures)
+
+grow-lanes-requires : tie.Need-grow-lanes-requires
+grow-lanes-requires c κs = (c .before .before .before .before .pre .0, c .before .before .before .before .pre .1)
+
+same-length-2 : tie.Need-same-length-2
+same-length-2 c = search needs
+
+returns-2 : tie.Need-returns-2
+returns-2 c = c .before .before .grow-lanes .ensures
+
+pub grow-spec : {M : Type 1} → statement M
+grow-spec =
+    tie.close
+    (tie.spec grow-lane-requires same-length returns grow-lanes-requires same-length-2 returns-2)
