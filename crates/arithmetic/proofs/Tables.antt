@@ -29,10 +29,6 @@ pub getD-table : (f : ℕ → ℕ) (n : ℕ) (s : List ℕ) (i : ℕ) → i < n 
 getD-table f n s i h =
     List·getD-append (tabulate f n) s 0 i (rw length-tabulate h) ∙ getD-tabulate f n i h
 
--- the rule of a constant table, which `refl` tests over the whole of it, carried to each entry
-pub getD-ruled : (f : ℕ → ℕ) (n : ℕ) {s : List ℕ} (i : ℕ) {x : ℕ} → i < n → f i ≡ x → s ≡ tabulate f n → getD s i 0 ≡ x
-getD-ruled f n i h fx e = ap (λ (t : List ℕ). getD t i 0) e ∙ getD-tabulate f n i h ∙ fx
-
 pub getD-beyond : (f : ℕ → ℕ) (n : ℕ) (s : List ℕ) (i : ℕ) → getD (tabulate f n ++ s) (n + i) 0 ≡ getD s i 0
 getD-beyond f n s i =
     ap (λ (k : ℕ). getD (tabulate f n ++ s) (k + i) 0) (sym (length-tabulate f n))

@@ -1,7 +1,8 @@
 // Matting and restoring a pixel AARRGGBB (SCOPE, "Fixed point and matting"; the Rust: geometry.rs, libwebp's WebPMultARGBRow_C).
 ghost use mathlib.Core.Path.{_≡_};
-ghost use Prim.Native.Nat.{_<_};
-ghost use Rattle.arithmetic.specs.Matte.{matteFactor, restoreFactor, factorOf, scaleColour, multArgb};
+ghost use Prim.Native.Nat.{_-_, _<_};
+ghost use lib.ListN.{getD};
+ghost use Rattle.arithmetic.specs.Matte.{matteFactor, scaleColour, multArgb, restoreFactors, scaledArgb, restoredBy};
 
 // One colour matted, for every alpha and with no case: libwebp's factor 65793 × alpha over 2^24 is alpha / 255 rounded to the nearest.
 // Both factors of the product fit 16 bits, which lets the compiler put several colours into one vector.
@@ -13,23 +14,20 @@ pub fn matte(colour: u8, alpha: u8) -> u32
     (t + t / 256) / 256
 }
 
-// The one place where the factor to restore is had: the table's entry for this alpha.
-fn restore_factor(alpha: u32) -> u32
-    requires { ⌜ (0 < alpha) × (alpha < 255) ⌝ }
-    ensures { λ r. ⌜ r ≡ restoreFactor alpha ⌝ }
+// The factors to restore, as they are lent to `restore_argb`. A table is built anew at each use: once a row, and not once a pixel.
+// Rules out: an entry off by one; the table shifted by an entry.
+pub fn restore_factors() -> [u32; 254]
+    ensures { λ r. ⌜ r ≡ restoreFactors ⌝ }
 {
-    RESTORE_FACTORS[alpha as usize - 1]
+    RESTORE_FACTORS
 }
 
-// The Rust's alpha_scale, libwebp's GetScale.
-fn alpha_scale(alpha: u32, inverse: bool) -> u32
+// The one place where a factor to restore is read.
+fn restore_factor(alpha: u32, factors: &[u32; 254]) -> u32
     requires { ⌜ (0 < alpha) × (alpha < 255) ⌝ }
-    ensures { λ r. ⌜ r ≡ factorOf inverse alpha ⌝ }
+    ensures { λ r. ⌜ r ≡ getD (now (factors .entry)) (alpha - 1) 0 ⌝ }
 {
-    if inverse {
-        return restore_factor(alpha);
-    }
-    65793 * alpha
+    factors[alpha as usize - 1]
 }
 
 // The Rust's mult_alpha, libwebp's Mult.
@@ -40,10 +38,21 @@ fn mult_alpha(colour: u32, scale: u32) -> u32
     ((colour as u64 * scale as u64 + 8388608) / 16777216) as u32
 }
 
-// The Rust's mult_argb: the colours of one pixel matted, or restored where `inverse`. A restored colour above 255 spills into the next lane.
-// Rules out: a restored colour cut off at 255; a colour or-ed onto another lane.
-pub fn mult_argb(argb: u32, inverse: bool) -> u32
-    ensures { λ r. ⌜ r ≡ multArgb argb inverse ⌝ }
+// The colours of a pixel scaled by one factor. A colour above 255 spills into the next lane.
+fn scale_argb(argb: u32, scale: u32) -> u32
+    ensures { λ r. ⌜ r ≡ scaledArgb argb scale ⌝ }
+{
+    let alpha = argb >> 24;
+    let blue = mult_alpha(argb % 256, scale);
+    let green = mult_alpha((argb >> 8) % 256, scale);
+    let red = mult_alpha((argb >> 16) % 256, scale);
+    (alpha << 24) | blue | (green << 8) | (red << 16)
+}
+
+// The Rust's mult_argb with `inverse`, by lent factors: the colours of one pixel restored.
+// Rules out: the factor of another alpha; a restored colour cut off at 255.
+pub fn restore_argb(argb: u32, factors: &[u32; 254]) -> u32
+    ensures { λ r. ⌜ r ≡ restoredBy (now (factors .entry)) argb ⌝ }
 {
     let alpha = argb >> 24;
     if alpha == 255 {
@@ -52,11 +61,26 @@ pub fn mult_argb(argb: u32, inverse: bool) -> u32
     if alpha == 0 {
         return 0;
     }
-    let scale = alpha_scale(alpha, inverse);
-    let blue = mult_alpha(argb % 256, scale);
-    let green = mult_alpha((argb >> 8) % 256, scale);
-    let red = mult_alpha((argb >> 16) % 256, scale);
-    (alpha << 24) | blue | (green << 8) | (red << 16)
+    scale_argb(argb, restore_factor(alpha, factors))
+}
+
+// The Rust's mult_argb: the colours of one pixel matted, or restored where `inverse`. A restored colour above 255 spills into the next lane.
+// Rules out: a restored colour cut off at 255; a colour or-ed onto another lane.
+pub fn mult_argb(argb: u32, inverse: bool) -> u32
+    ensures { λ r. ⌜ r ≡ multArgb argb inverse ⌝ }
+{
+    if inverse {
+        let factors = restore_factors();
+        return restore_argb(argb, &factors);
+    }
+    let alpha = argb >> 24;
+    if alpha == 255 {
+        return argb;
+    }
+    if alpha == 0 {
+        return 0;
+    }
+    scale_argb(argb, 65793 * alpha)
 }
 
 // The factors to restore, of alpha 1 to 254: entry alpha - 1 is 255 × 2^24 / alpha.
