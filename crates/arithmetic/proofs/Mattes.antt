@@ -1,18 +1,21 @@
 -- Matting and restoring. The lanes of a pixel; one form of the scaled colour for every alpha, its bounds and monotony (MATHEMATICS 6); and from these
 -- that no lane spills in matting, nor in restoring a pixel whose colours are at most its alpha. Assumes nothing.
-use Prim.Native.Nat.{ℕ, zero, suc, _+_, _*_, _/_, _%_, _^_, _≤_, _<_}
+use Prim.Native.Nat.{ℕ, zero, suc, _+_, _*_, _-_, _/_, _%_, _^_, _≤_, _<_}
 use mathlib.Core.Path.{_≡_, refl, sym, ap, _∙_}
 use mathlib.Core.Bool.{Bool, true, false, cond}
+use mathlib.Core.List.{List}
 use mathlib.Core.Logic.{⊎-elim}
 use native.Mathlib.Omega.{arith}
 use native.Mathlib.Nat.{mul-le-mul-right, eq-or-lt-of-le, eq-zero-or-pos, div-le-self, div-zero, add-zero, le-of-suc-le-suc, le-trans}
 use borrow.Author.Tests.{eq-eqb, ne-eqb, lt-ltb}
 use lib.Dec.{ltb, lit<}
+use lib.ListN.{getD}
 use lib.Pow.{pow-pos}
 use lib.Bits.{bitOr, or-lt, or-block, or-shifted, or-zero-r}
-use Rattle.arithmetic.specs.Matte.{laneOf, pixelOf, matteFactor, restoreFactor, factorOf, scaleColour, orOnto, multArgb}
+use Rattle.arithmetic.specs.Matte.{laneOf, pixelOf, matteFactor, restoreFactor, factorOf, scaleColour, orOnto, multArgb, restoreFactors, scaledArgb, restoredBy}
 use Rattle.arithmetic.proofs.Products.{byte-product}
 use Rattle.arithmetic.proofs.Quotients.{div-low}
+use Rattle.arithmetic.proofs.Tables.{getD-tabulate}
 
 -- ---- lanes
 pub lane-byte : (argb k : ℕ) → laneOf argb k ≤ 255
@@ -183,6 +186,46 @@ pub argb-between : (argb : ℕ) (inverse : Bool) → 0 < laneOf argb 3 → laneO
 unfolding multArgb scaledLane
 argb-between argb inverse l u =
     simp (ne-eqb (laneOf argb 3) 255 (λ e. omega arith), ne-eqb (laneOf argb 3) 0 (λ e. omega arith))
+
+-- ---- the same with lent factors
+pub restored-opaque : (factors : List ℕ) (argb : ℕ) → laneOf argb 3 ≡ 255 → restoredBy factors argb ≡ argb
+unfolding restoredBy
+restored-opaque factors argb e = simp (eq-eqb (laneOf argb 3) 255 e)
+
+pub restored-clear : (factors : List ℕ) (argb : ℕ) → laneOf argb 3 ≡ 0 → restoredBy factors argb ≡ 0
+unfolding restoredBy
+restored-clear factors argb e = simp e
+
+pub restored-between : (factors : List ℕ) (argb : ℕ) → 0 < laneOf argb 3 → laneOf argb 3 < 255
+    → restoredBy factors argb ≡ scaledArgb argb (getD factors (laneOf argb 3 - 1) 0)
+unfolding restoredBy
+restored-between factors argb l u =
+    simp (ne-eqb (laneOf argb 3) 255 (λ e. omega arith), ne-eqb (laneOf argb 3) 0 (λ e. omega arith))
+
+pub argb-scaled : (argb : ℕ) (inverse : Bool) → 0 < laneOf argb 3 → laneOf argb 3 < 255
+    → multArgb argb inverse ≡ scaledArgb argb (factorOf inverse (laneOf argb 3))
+unfolding multArgb scaledArgb
+argb-scaled argb inverse l u =
+    simp (ne-eqb (laneOf argb 3) 255 (λ e. omega arith), ne-eqb (laneOf argb 3) 0 (λ e. omega arith))
+
+-- the entry of an alpha is its factor
+pub factor-entry : (a : ℕ) → 0 < a → a < 255 → getD restoreFactors (a - 1) 0 ≡ factorOf true a
+unfolding restoreFactors factorOf
+factor-entry a l u = getD-tabulate (λ i. restoreFactor (suc i)) 254 (a - 1) (omega arith) ∙ ap restoreFactor (omega arith)
+
+-- lent SCOPE's factors, it is mult_argb
+pub restored-is : (argb : ℕ) → restoredBy restoreFactors argb ≡ multArgb argb true
+restored-is argb =
+    ⊎-elim
+    (λ e. restored-opaque restoreFactors argb e ∙ sym (argb-opaque argb true e))
+    (λ u. ⊎-elim (λ e. restored-clear restoreFactors argb e ∙ sym (argb-clear argb true e)) (λ l. between l u) (eq-zero-or-pos (laneOf argb 3)))
+    (eq-or-lt-of-le (lane-byte argb 3))
+  where
+    between : 0 < laneOf argb 3 → laneOf argb 3 < 255 → restoredBy restoreFactors argb ≡ multArgb argb true
+    between l u =
+        restored-between restoreFactors argb l u
+        ∙ ap (scaledArgb argb) (factor-entry (laneOf argb 3) l u)
+        ∙ sym (argb-scaled argb true l u)
 
 pub scaled-word : (argb : ℕ) (inverse : Bool) (k : ℕ) → k < 3 → scaledLane argb inverse k < 2 ^ 16
 scaled-word argb inverse k l =

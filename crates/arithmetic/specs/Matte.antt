@@ -1,8 +1,11 @@
 -- Matting and restoring a pixel AARRGGBB (SCOPE, "Fixed point and matting"; libwebp's WebPMultARGBRow_C). Assumes nothing.
-use Prim.Native.Nat.{ℕ, _+_, _*_, _/_, _%_, _^_}
+use Prim.Native.Nat.{ℕ, suc, _+_, _*_, _-_, _/_, _%_, _^_}
 use mathlib.Core.Bool.{Bool, cond}
+use mathlib.Core.List.{List}
 use lib.Dec.{eqb}
 use lib.Bits.{bitOr}
+use lib.ListN.{getD}
+use Rattle.arithmetic.specs.Table.{tabulate}
 
 -- lane k of a pixel AARRGGBB: 0 is blue, 1 green, 2 red, 3 alpha
 unfoldable pub laneOf : ℕ → ℕ → ℕ
@@ -38,3 +41,20 @@ multArgb argb inverse =
     cond (eqb a 255) argb
     (cond (eqb a 0) 0
     (orOnto a (scaleColour (laneOf argb 0) k) (scaleColour (laneOf argb 1) k) (scaleColour (laneOf argb 2) k)))
+
+-- ---- restore with lent factors
+
+-- the factors to restore as a list: entry i is that of alpha i + 1, for alpha 1 to 254
+unfoldable pub restoreFactors : List ℕ
+restoreFactors = tabulate (λ i. restoreFactor (suc i)) 254
+
+-- the colours of a pixel scaled by one factor, or-ed onto its alpha
+unfoldable pub scaledArgb : ℕ → ℕ → ℕ
+scaledArgb argb k =
+    orOnto (laneOf argb 3) (scaleColour (laneOf argb 0) k) (scaleColour (laneOf argb 1) k) (scaleColour (laneOf argb 2) k)
+
+-- mult_argb (restore) with any list in the place of the factors
+unfoldable pub restoredBy : List ℕ → ℕ → ℕ
+restoredBy factors argb =
+    let a : ℕ = laneOf argb 3 in
+    cond (eqb a 255) argb (cond (eqb a 0) 0 (scaledArgb argb (getD factors (a - 1) 0)))

@@ -1,6 +1,7 @@
 // Pixels of an output row are restored and packed (SCOPE, "A row goes out" and "Lanes"; the Rust: mult_argb with `inverse` and pack_pixels;
 // libwebp's WebPMultARGBRow_C). In place, in passes: restore where a pixel isn't opaque, then the byte order.
-use arithmetic::mult_argb;
+use arithmetic::restore_argb;
+use arithmetic::restore_factors;
 use pixels::Checked;
 use pixels::Flagged;
 use pixels::PIXEL_LANES;
@@ -12,7 +13,7 @@ ghost use mathlib.Core.Bool.{_||_, not};
 ghost use Prim.Native.Nat.{_+_, _*_, _^_, _≤_};
 ghost use lib.Dec.{eqb};
 ghost use lib.ListN.{length, getD};
-ghost use Rattle.arithmetic.specs.Matte.{laneOf};
+ghost use Rattle.arithmetic.specs.Matte.{laneOf, restoreFactors};
 ghost use Rattle.arithmetic.specs.Table.{tabulate};
 ghost use Rattle.pixels.specs.Refusals.{checkedNumber, flaggedNumber, flaggedFlag};
 ghost use Rattle.pixels.specs.Sizes.{pixelLanes, rowBytes};
@@ -48,33 +49,46 @@ fn put_word(out: &mut [u8], at: usize, argb: u32)
     out[at + 3] = (argb / 16777216) as u8;
 }
 
-// Restores the pixel at `at`; whether its alpha isn't 255 then: a spill can change the alpha.
-fn restore_pixel(out: &mut [u8], at: usize) -> bool
-    requires { ⌜ at + pixelLanes ≤ length (now out) ⌝ }
+// Restores the pixel at `at` by lent factors; whether its alpha isn't 255 then: a spill can change the alpha.
+fn restore_pixel(out: &mut [u8], at: usize, factors: &[u32; 254]) -> bool
+    requires { ⌜ (at + pixelLanes ≤ length (now out)) × (now factors ≡ restoreFactors) ⌝ }
     ensures flag { λ r. ⌜ r ≡ not (eqb (laneOf (restoredAt (now (out .entry)) at) alphaLane) 255) ⌝ }
     ensures out { λ _. ⌜ now (out .exit) ≡ putLanes (now (out .entry)) at (laneOf (restoredAt (now (out .entry)) at)) ⌝ }
 {
     if out[at + 3] == 255 {
         return false;
     }
-    let argb = mult_argb(word(out[at], out[at + 1], out[at + 2], out[at + 3]), true);
+    let argb = restore_argb(
+        word(out[at], out[at + 1], out[at + 2], out[at + 3]),
+        factors,
+    );
     put_word(out, at, argb);
     argb / 16777216 != 255
 }
 
-// Restores m pixels; whether some of them isn't opaque then.
-fn restore_lanes(out: &mut [u8], m: usize) -> bool
-    requires { ⌜ length (now out) ≡ rowBytes pixelLanes m ⌝ }
+// Restores m pixels by lent factors; whether some of them isn't opaque then.
+fn restore_pixels(out: &mut [u8], m: usize, factors: &[u32; 254]) -> bool
+    requires { ⌜ (length (now out) ≡ rowBytes pixelLanes m) × (now factors ≡ restoreFactors) ⌝ }
     ensures flag { λ r. ⌜ r ≡ clearAfter (now (out .entry)) m ⌝ }
     ensures out { λ _. ⌜ now (out .exit) ≡ tabulate (restoredPlace PixelLayout.Bgra8 (λ x. getD (now (out .entry)) x 0)) (rowBytes pixelLanes m) ⌝ }
 {
     let mut clear = false;
     let mut j = 0usize;
     while j < m {
-        clear = either(clear, restore_pixel(out, PIXEL_LANES * j));
+        clear = either(clear, restore_pixel(out, PIXEL_LANES * j, factors));
         j += 1;
     }
     clear
+}
+
+// Restores m pixels; whether some of them isn't opaque then. The factors are laid out once for all of them.
+fn restore_lanes(out: &mut [u8], m: usize) -> bool
+    requires { ⌜ length (now out) ≡ rowBytes pixelLanes m ⌝ }
+    ensures flag { λ r. ⌜ r ≡ clearAfter (now (out .entry)) m ⌝ }
+    ensures out { λ _. ⌜ now (out .exit) ≡ tabulate (restoredPlace PixelLayout.Bgra8 (λ x. getD (now (out .entry)) x 0)) (rowBytes pixelLanes m) ⌝ }
+{
+    let factors = restore_factors();
+    restore_pixels(out, m, &factors)
 }
 
 // B, G, R, A to R, G, B, A.

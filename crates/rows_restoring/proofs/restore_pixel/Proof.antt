@@ -1,6 +1,11 @@
--- `restore_pixel` meets its contract: an opaque pixel is restored already, and any other is what mult_argb makes of its word. Assumes nothing.
+-- `restore_pixel` meets its contract: an opaque pixel is restored already, and any other is what mult_argb makes of its word, by the factors lent. Assumes nothing.
 use lib.ListN.{getD}
+use mathlib.Core.Bool.{true}
+use mathlib.Core.List.{List}
+use mathlib.Core.Path.{_≡_, ap, _∙_}
 use Prim.Native.Nat.{ℕ, _<_}
+use Rattle.arithmetic.specs.Matte.{multArgb, restoredBy}
+use Rattle.arithmetic.proofs.Mattes.{restored-is}
 use Rattle.rows_restoring.proofs.RestoredPixels.{opaque-kept, opaque-flag, pixel-done}
 use borrow.Author.Needs.{needs}
 use Rattle.rows_restoring.proofs.restore_pixel.Statement.{statement}
@@ -42,8 +47,8 @@ slice-read-word-4 c = search needs
 word-requires : tie.Need-word-requires
 word-requires c κs = search needs
 
-mult-argb-requires : tie.Need-mult-argb-requires
-mult-argb-requires c κs = search needs
+restore-argb-requires : tie.Need-restore-argb-requires
+restore-argb-requires c κs = search needs
 
 put-word-requires : tie.Need-put-word-requires
 put-word-requires c κs = search needs
@@ -54,9 +59,10 @@ same-length c = search needs
 returns-2 : tie.Need-returns-2
 returns-2 c =
     let b = c .before .before .before .before in
-    pixel-done (b .before .before .before .before .before .before .before .before .before .args .out .now)
-    (b .before .before .before .before .before .before .before .before .before .args .at) (b .before .word .ensures) (b .mult-argb .ensures)
-    (b .mult-argb .ok) (c .before .before .put-word .ensures)
+    let start = b .before .before .before .before .before .before .before .before .before in
+    let lent : b .restore-argb .result ≡ multArgb (b .before .word .result) true =
+    b .restore-argb .ensures ∙ ap (λ (factors : List ℕ). restoredBy factors (b .before .word .result)) (start .pre .1) ∙ restored-is (b .before .word .result) in
+    pixel-done (start .args .out .now) (start .args .at) (b .before .word .ensures) lent (b .restore-argb .ok) (c .before .before .put-word .ensures)
 
 pub restore-pixel-spec : {M : Type 1} → statement M
 restore-pixel-spec =
@@ -73,7 +79,7 @@ restore-pixel-spec =
     add-word-3
     slice-read-word-4
     word-requires
-    mult-argb-requires
+    restore-argb-requires
     put-word-requires
     same-length
     returns-2)
