@@ -1,15 +1,17 @@
 -- A list read byte by byte: what a loop over its bytes keeps, one record for each loop; runs that are whole lists. Assumes nothing.
-use Prim.Native.Nat.{ℕ, suc, _+_, _≤_, _<_}
+use Prim.Native.Nat.{ℕ, zero, suc, _+_, _≤_, _<_}
 use mathlib.Core.Path.{_≡_, refl, sym, _∙_, ap}
-use mathlib.Core.Bool.{Bool, true, false, cond}
+use mathlib.Core.Bool.{Bool, true, false, cond, _&&_, and-true, and-assoc}
 use mathlib.Core.List.{List, [], _∷_, _++_}
 use native.Mathlib.Omega.{arith}
 use native.Mathlib.Numerals.{add-one}
-use lib.Dec.{eqb}
+use lib.Dec.{eqb, eqb·zero-suc, eqb·suc-suc}
 use lib.ListN.{length, getD, drop, length-drop, drop-of-length-le}
 use lib.Seq.{drop-cons}
 use borrow.Author.Tests.{eq-eqb, ne-eqb, eqb-true, eqb-false}
+use Rattle.preview_decimal.specs.Decimal.{isDigit, digits}
 use Rattle.pam_text.specs.declared.Class.{Class}
+use Rattle.pam_text.specs.declared.Class.the-variants.{Digit}
 use Rattle.pam_text.specs.Text.{isOf, runLength, sameText}
 
 drop-zero : (s : List ℕ) → drop 0 s ≡ s
@@ -134,3 +136,20 @@ run-most k (b ∷ s) = go (isOf k b) (run-most k s)
     go : (x : Bool) → runLength k s ≤ length s → cond x (suc (runLength k s)) 0 ≤ suc (length s)
     go true most = omega arith
     go false most = omega arith
+
+-- ---- digits, all of them
+digits-cons : (b : ℕ) (s : List ℕ) (k : ℕ) → digits (b ∷ s) (suc k) ≡ (isDigit b && digits s k)
+unfolding digits
+digits-cons b s zero = sym (and-true (isDigit b))
+digits-cons b s (suc k) = rw (digits-cons b s k) (and-assoc (isDigit b) (digits s k) (isDigit (getD s k 0)))
+
+digits-case : (b : ℕ) (s : List ℕ) (x : Bool) → isDigit b ≡ x → eqb (runLength Digit s) (length s) ≡ digits s (length s) → eqb (runLength Digit (b ∷ s)) (suc (length s)) ≡ (isDigit b && digits s (length s))
+unfolding runLength
+digits-case b s true e ih = rw e (eqb·suc-suc (runLength Digit s) (length s) ∙ ih)
+digits-case b s false e ih = rw e (eqb·zero-suc (length s))
+
+-- the run of digits is the whole exactly if every byte is a digit
+pub all-digits : (s : List ℕ) → eqb (runLength Digit s) (length s) ≡ digits s (length s)
+unfolding runLength digits
+all-digits [] = refl
+all-digits (b ∷ s) = digits-case b s (isDigit b) refl (all-digits s) ∙ sym (digits-cons b s (length s))

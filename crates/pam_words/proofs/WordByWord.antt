@@ -3,7 +3,8 @@ use Prim.Native.Nat.{ℕ, suc}
 use mathlib.Core.Path.{_≡_, refl, sym, _∙_, ap, ap₂}
 use mathlib.Core.Bool.{Bool, true, false, cond, not}
 use mathlib.Core.List.{List, [], _∷_, _++_, append-nil, append-assoc}
-use lib.ListN.{take, drop}
+use native.Mathlib.Omega.{arith}
+use lib.ListN.{length, take, drop}
 use Rattle.pam_text.specs.declared.Class.the-variants.{Blank, Solid}
 use Rattle.pam_text.specs.Text.{isBlank, runLength}
 use Rattle.pam_words.specs.Words.{closed, wordsFrom, words, unblank, wordOf, pastWord}
@@ -44,3 +45,29 @@ word-ends (b ∷ t) held = word-case b t held (isBlank b) refl (word-ends t (hel
 pub words-are : (s : List ℕ) → words s ≡ closed (wordOf s) (words (pastWord s))
 unfolding wordOf pastWord
 words-are s = unblanked s ∙ word-ends (unblank s) []
+
+-- ---- no word
+still : (b : ℕ) (s : List ℕ) → isBlank b ≡ false → unblank (b ∷ s) ≡ b ∷ s
+unfolding runLength
+still b s e = rw e refl
+
+some : (b : ℕ) (s : List ℕ) → isBlank b ≡ false → length (take (runLength Solid (b ∷ s)) (b ∷ s)) ≡ suc (length (take (runLength Solid s) s))
+unfolding runLength
+some b s e = rw e refl
+
+full-case : (b : ℕ) (s : List ℕ) (x : Bool) → isBlank b ≡ x → (length (wordOf s) ≡ 0 → unblank s ≡ []) → length (wordOf (b ∷ s)) ≡ 0 → unblank (b ∷ s) ≡ []
+unfolding runLength wordOf
+full-case b s true e ih z = rw e (ih (rw e at z))
+full-case b s false e ih z =
+    let full = ap (λ (u : List ℕ). length (take (runLength Solid u) u)) (still b s e) ∙ some b s e in
+    absurd (omega (arith, sym z ∙ full))
+
+all-blank : (s : List ℕ) → length (wordOf s) ≡ 0 → unblank s ≡ []
+unfolding runLength
+all-blank [] z = refl
+all-blank (b ∷ s) z = full-case b s (isBlank b) refl (all-blank s) z
+
+-- where the first word is empty there is none
+pub no-words : (s : List ℕ) → length (wordOf s) ≡ 0 → words s ≡ []
+unfolding wordsFrom
+no-words s z = unblanked s ∙ ap words (all-blank s z)
