@@ -1,5 +1,5 @@
 -- What the program makes of a line's first three words is what the line says. Assumes nothing.
-use Prim.Native.Nat.{ℕ}
+use Prim.Native.Nat.{ℕ, _≤_, _<_, min}
 use mathlib.Core.Path.{_≡_, refl, sym, _∙_, ap, ap₂}
 use mathlib.Core.Bool.{Bool, true, false, cond, true≢false}
 use mathlib.Core.List.{List, [], _∷_}
@@ -7,7 +7,7 @@ use native.Mathlib.Omega.{arith}
 use lib.Dec.{eqb, eqb·suc-zero}
 use lib.ListN.{length, getD}
 use borrow.Author.Tests.{eq-eqb, ne-eqb}
-use Rattle.preview_decimal.specs.Decimal.{digits, value, decimal}
+use Rattle.preview_decimal.specs.Decimal.{digits, value, none, decimal}
 use Rattle.pam_text.specs.declared.Class.the-variants.{Digit}
 use Rattle.pam_text.specs.Text.{runLength, sameText}
 use Rattle.pam_text.proofs.Texts.{all-digits}
@@ -29,13 +29,25 @@ module _ (key : Key) (a b : List ℕ) (full : length a ≡ 0 → ⊥) (alone : l
   unfolding numberSaid
   number-letter d = simp (ne-eqb (length a) 0 full, eq-eqb (length b) 0 alone, digits-are false (ne-eqb n (length a) d))
 
-  pub number-is : (r : ℕ) → n ≡ length a → r ≡ decimal a → said.Number key r ≡ numberSaid key a b
-  unfolding numberSaid
-  number-is r e f =
-      let good = digits-are true (eq-eqb n (length a) e) in
-      let some = ne-eqb (length a) 0 full in
-      let exact : decimal a ≡ cut (value a (length a)) = simp (some, good) in
-      ap (said.Number key) (f ∙ exact) ∙ simp (some, eq-eqb (length b) 0 alone, good)
+  module _ (r : ℕ) (e : n ≡ length a) (f : r ≡ decimal a) where
+    good : digits a (length a) ≡ true
+    good = digits-are true (eq-eqb n (length a) e)
+
+    some : eqb (length a) 0 ≡ false
+    some = ne-eqb (length a) 0 full
+
+    told : r ≡ min (value a (length a)) none
+    told = f ∙ simp (some, good)
+
+    number-is : (v : ℕ) → v ≡ cut (value a (length a)) → said.Number key v ≡ numberSaid key a b
+    unfolding numberSaid
+    number-is v g = ap (said.Number key) g ∙ simp (some, eq-eqb (length b) 0 alone, good)
+
+    pub number-large : none ≤ r → said.Number key 4294967295 ≡ numberSaid key a b
+    number-large h = number-is 4294967295 (omega (arith, told))
+
+    pub number-fits : r < none → said.Number key r ≡ numberSaid key a b
+    number-fits h = number-is r (omega (arith, told))
 
 -- ---- the words after the first, by the second and the third
 held-digits : (key : Key) (v : ℕ) (x : Bool) → cond x (said.Number key (cut v)) said.Outside ≡ held (cond x (said.Number key v) said.Outside)

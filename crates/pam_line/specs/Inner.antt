@@ -1,5 +1,5 @@
--- What a line says, as the program has it: by its first three words, empty where there is none, a number cut off at 2^32. Assumes nothing.
-use Prim.Native.Nat.{ℕ, min}
+-- What a line says, as the program has it: by its first three words, empty where there is none, a number cut off at 2^32 - 1. Assumes nothing.
+use Prim.Native.Nat.{ℕ, _-_, min}
 use mathlib.Core.Bool.{cond}
 use mathlib.Core.List.{List, [], _∷_}
 use lib.Dec.{eqb}
@@ -13,9 +13,9 @@ use Rattle.pam_line.specs.declared.Keyword.the-variants as keyword
 use Rattle.pam_line.specs.declared.Said.{Said}
 use Rattle.pam_line.specs.declared.Said.the-variants as said
 
--- a number that 64 bits hold: all above 2^32 are held as 2^32, and are refused like it
+-- a number of more than 32 bits is told as the largest of them, and refused like it
 abbrev pub cut : ℕ → ℕ
-cut v = min v none
+cut v = min v (none - 1)
 
 abbrev pub held : Said → Said
 held said.Nothing = said.Nothing

@@ -4,6 +4,7 @@ use pam_text::run_of;
 use pam_text::same;
 use pam_words::past;
 use pam_words::word;
+use preview_decimal::NONE;
 use preview_decimal::number;
 ghost use mathlib.Core.Path.{_≡_};
 ghost use Rattle.pam_line.specs.Line.{keywordOf, says};
@@ -28,7 +29,7 @@ pub enum Keyword {
 // What a line says.
 pub enum Said {
     Nothing,
-    Number { key: Key, value: u64 },
+    Number { key: Key, value: u32 },
     // a tuple type: RGB_ALPHA alone, or another
     RgbAlpha,
     OtherType,
@@ -76,9 +77,16 @@ fn number_line(key: Key, word: &[u8], next: &[u8]) -> Said
     if n != word.len() {
         return Said::Outside;
     }
+    let v = number(word);
+    if v >= NONE {
+        return Said::Number {
+            key: key,
+            value: 4294967295,
+        };
+    }
     Said::Number {
         key: key,
-        value: number(word),
+        value: v as u32,
     }
 }
 
@@ -110,7 +118,7 @@ fn by_words(keyword: Keyword, a: &[u8], b: &[u8]) -> Said
     }
 }
 
-// What a line says; a number above 2^32 is told as 2^32.
+// What a line says; a number of more than 32 bits is told as the largest of them.
 // Rules out: HEIGHT taken for WIDTH; a number left out, a letter in it, a word after it; a tuple type of no word; RGB_ALPHA and another word taken
 // for RGB_ALPHA alone; a word after ENDHDR; a comment that begins with %.
 pub fn line_says(line: &[u8]) -> Said

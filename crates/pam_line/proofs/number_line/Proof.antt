@@ -1,5 +1,5 @@
 -- Exactly one word, all digits. Assumes nothing.
-use Rattle.pam_line.proofs.Saying.{number-letter, number-is}
+use Rattle.pam_line.proofs.Saying.{number-letter, number-large, number-fits}
 use Rattle.pam_line.specs.Inner.{numberSaid}
 use borrow.Author.Tests.{eq-eqb, ne-eqb}
 use borrow.Author.Needs.{needs}
@@ -24,8 +24,23 @@ number-requires : tie.Need-number-requires
 number-requires c κs = search needs
 
 returns-4 : tie.Need-returns-4
-returns-4 c = number-is _ _ _ (c .before .before .before .before .if1 .left) (c .before .before .before .if2 .left) _ (c .before .before .run-of .ensures) _ (c .before .if3 .left) (c .number .ensures)
+returns-4 c = number-large _ _ _ (c .before .before .before .before .before .if1 .left) (c .before .before .before .before .if2 .left) _ (c .before .before .before .run-of .ensures) _ (c .before .before .if3 .left) (c .before .number .ensures) (c .if4 .taken)
+
+cast-t9 : tie.Need-cast-t9
+cast-t9 c = search needs
+
+returns-5 : tie.Need-returns-5
+returns-5 c = number-fits _ _ _ (c .before .before .before .before .before .if1 .left) (c .before .before .before .before .if2 .left) _ (c .before .before .before .run-of .ensures) _ (c .before .before .if3 .left) (c .before .number .ensures) (c .if4 .left)
 
 pub number-line-spec : {M : Type 1} → statement M
 number-line-spec =
-    tie.close (tie.spec returns returns-2 run-of-requires returns-3 number-requires returns-4)
+    tie.close
+    (tie.spec
+    returns
+    returns-2
+    run-of-requires
+    returns-3
+    number-requires
+    returns-4
+    cast-t9
+    returns-5)
