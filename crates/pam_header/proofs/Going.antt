@@ -20,13 +20,13 @@ use Rattle.pam_text.specs.declared.Class.the-variants.{Inside}
 use Rattle.pam_text.specs.Text.{runLength, sameText}
 use Rattle.pam_line.specs.declared.Key.{Key}
 use Rattle.pam_line.specs.declared.Key.the-variants.{Width, Height, Depth, Maxval}
-use Rattle.pam_line.specs.Line.{says}
+use Rattle.pam_line.specs.Line.{textP7, says}
 use Rattle.pam_line.specs.Inner.{held}
 use Rattle.pam_seen.specs.declared.Seen.{Seen}
 use Rattle.pam_seen.specs.Inner.{at, unread, afterLine}
 use Rattle.pam_header.specs.declared.PamHeader.{PamHeader}
 use Rattle.pam_header.specs.declared.PamHeader.the-variants.{Refused, Unfinished}
-use Rattle.pam_header.specs.Header.{lines, textP7, opens, others, isEnd, ends, beforeEnd, endBytes, strays, given, types, once, few, the, keysFail, header, malformed, unsupported, sizeSaid, headerCauses, headerNumber, headerSize, headerStart, headerUnfinished, firstBytes, pixelsFrom, startIf, answerNumber, answerSize, answerStart, answerUnfinished}
+use Rattle.pam_header.specs.Header.{lines, opens, others, isEnd, ends, beforeEnd, endBytes, strays, given, types, once, few, the, keysFail, header, malformed, unsupported, sizeSaid, headerCauses, headerNumber, headerSize, headerStart, headerUnfinished, firstBytes, pixelsFrom, startIf, answerNumber, answerSize, answerStart, answerUnfinished}
 use Rattle.pam_header.specs.Inner.{keyMissing, otherKind, verdictCauses, verdictNumber, verdictSize, verdictStart, sizeHeld}
 use Rattle.pam_header.proofs.Lines.{lines-split, lines-none}
 use Rattle.pam_header.proofs.Parts.{ends-append, bytes, bytes-append, before-past, bytes-past}

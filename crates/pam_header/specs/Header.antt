@@ -13,7 +13,7 @@ use Rattle.pam_line.specs.declared.Key.{Key}
 use Rattle.pam_line.specs.declared.Key.the-variants.{Width, Height, Depth, Maxval}
 use Rattle.pam_line.specs.declared.Said.{Said}
 use Rattle.pam_line.specs.declared.Said.the-variants as said
-use Rattle.pam_line.specs.Line.{says}
+use Rattle.pam_line.specs.Line.{textP7, says}
 use Rattle.pam_header.specs.declared.PamHeader.{PamHeader}
 use Rattle.pam_header.specs.declared.PamHeader.the-variants.{Picture, Refused, Unfinished}
 
@@ -26,9 +26,6 @@ linesFrom held (b ∷ s) = cond (eqb b 10) (held ∷ linesFrom [] s) (linesFrom 
 
 abbrev pub lines : List ℕ → List (List ℕ)
 lines s = linesFrom [] s
-
-abbrev pub textP7 : List ℕ
-textP7 = 80 ∷ 55 ∷ []
 
 -- "the first just P7"
 abbrev pub opens : List (List ℕ) → Bool

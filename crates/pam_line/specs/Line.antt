@@ -15,6 +15,9 @@ use Rattle.pam_line.specs.declared.Said.{Said}
 use Rattle.pam_line.specs.declared.Said.the-variants as said
 
 -- ---- the words of the form, in ASCII
+abbrev pub textP7 : List ℕ
+textP7 = 80 ∷ 55 ∷ []
+
 abbrev pub textWidth : List ℕ
 textWidth = 87 ∷ 73 ∷ 68 ∷ 84 ∷ 72 ∷ []
 

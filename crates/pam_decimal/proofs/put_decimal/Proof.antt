@@ -41,10 +41,19 @@ same-length : tie.Need-same-length
 same-length c = search needs
 
 returns : tie.Need-returns
-returns c = let g = (c .before .before .before .before .before .before .before .before .before .before .before .before .before .args) in
-    let d = c .before .before .before .before .before .before .before .digit-at5 in
-    let digits = last-of (g .n) _ _ _ _ _ _ _ (c .before .before .before .before .before .before .before .before .before .before .before .digit-at .ensures) (c .before .before .before .before .before .before .before .before .before .before .digit-at2 .ensures) (c .before .before .before .before .before .before .before .before .before .digit-at3 .ensures) (c .before .before .before .before .before .before .before .before .digit-at4 .ensures) (c .before .before .before .before .before .before .before .digit-at5 .ensures) in
-    (c .before .before .put) .ensures ∙ ap (putAt (g .out .now) (g .place)) (digits (c .before .before .before .before .digits-of .ensures) (c .before .before .before .tail-of .ensures))
+returns c =
+    let c3 = c .before .before .before in
+    let c4 = c3 .before in
+    let c7 = c4 .before .before .before in
+    let c8 = c7 .before in
+    let c9 = c8 .before in
+    let c10 = c9 .before in
+    let c11 = c10 .before in
+    let c13 = c11 .before .before in
+    let g = c13 .args in
+    let d = c7 .digit-at5 in
+    let digits = last-of (g .n) _ _ _ _ _ _ _ (c11 .digit-at .ensures) (c10 .digit-at2 .ensures) (c9 .digit-at3 .ensures) (c8 .digit-at4 .ensures) (c7 .digit-at5 .ensures) in
+    (c .before .before .put) .ensures ∙ ap (putAt (g .out .now) (g .place)) (digits (c4 .digits-of .ensures) (c3 .tail-of .ensures))
 
 pub put-decimal-spec : {M : Type 1} → statement M
 put-decimal-spec =
