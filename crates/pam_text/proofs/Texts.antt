@@ -116,26 +116,9 @@ head-case k b s false e w = absurd (omega (arith, rw e at w))
 pub whole-head : (k : Class) (b : ℕ) (s : List ℕ) → Whole k (b ∷ s) → (isOf k b ≡ true) × Whole k s
 whole-head k b s w = head-case k b s (isOf k b) refl w
 
-pub run-then : (k : Class) (s : List ℕ) (b : ℕ) (t : List ℕ) → Whole k s → isOf k b ≡ false → runLength k (s ++ (b ∷ t)) ≡ length s
-unfolding runLength
-run-then k [] b t w e = rw e refl
-run-then k (a ∷ s) b t w e =
-    let (f, v) = whole-head k a s w in
-    rw f (ap suc (run-then k s b t v e))
-
 pub whole-append : (k : Class) (s t : List ℕ) → Whole k s → Whole k t → Whole k (s ++ t)
 whole-append k [] t w v = v
 whole-append k (b ∷ s) t w v = let (e, u) = whole-head k b s w in whole-cons k b (s ++ t) e (whole-append k s t u v)
-
--- a run is a part of its list
-pub run-most : (k : Class) (s : List ℕ) → runLength k s ≤ length s
-unfolding runLength
-run-most k [] = omega arith
-run-most k (b ∷ s) = go (isOf k b) (run-most k s)
-  where
-    go : (x : Bool) → runLength k s ≤ length s → cond x (suc (runLength k s)) 0 ≤ suc (length s)
-    go true most = omega arith
-    go false most = omega arith
 
 -- ---- digits, all of them
 digits-cons : (b : ℕ) (s : List ℕ) (k : ℕ) → digits (b ∷ s) (suc k) ≡ (isDigit b && digits s k)
