@@ -20,7 +20,7 @@ joined (l ∷ ls) = l ++ joined ls
 abbrev first : List ℕ
 first = line textP7 []
 
--- "WIDTH 3", "HEIGHT 2", "DEPTH 4", "MAXVAL 255", "TUPLTYPE RGB_ALPHA", "ENDHDR", "# "
+-- `WIDTH 3`, `HEIGHT 2`, `DEPTH 4`, `MAXVAL 255`, `TUPLTYPE RGB_ALPHA`, `ENDHDR`, `# `
 abbrev wide : List ℕ
 wide = line textWidth (32 ∷ 51 ∷ [])
 
@@ -42,7 +42,7 @@ end = line textEndhdr []
 abbrev note : List ℕ
 note = line (35 ∷ []) (32 ∷ [])
 
--- "DEPTH 3", "WIDTH 0", "WIDTH 16385", "DEPTH"
+-- `DEPTH 3`, `WIDTH 0`, `WIDTH 16385`, `DEPTH`
 abbrev deep3 : List ℕ
 deep3 = line textDepth (32 ∷ 51 ∷ [])
 

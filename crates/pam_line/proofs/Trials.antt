@@ -20,18 +20,18 @@ trial line meaning = record { line = line; meaning = meaning }
 
 abbrev trials : List Trial
 trials =
-    -- "# x"; " # x"; " \t"
+    -- `# x`; ` # x`; ` \t`
     trial (35 ∷ 32 ∷ 120 ∷ []) Nothing
     ∷ trial (32 ∷ 35 ∷ 32 ∷ 120 ∷ []) Outside
     ∷ trial (32 ∷ 9 ∷ []) Nothing
-    -- "\tWIDTH \v007\r"; "WIDTH 4294967300"; "WIDTH 7 8"; "WIDTH"; "WIDTH 7a"; "width 7"
+    -- `\tWIDTH \v007\r`; `WIDTH 4294967300`; `WIDTH 7 8`; `WIDTH`; `WIDTH 7a`; `width 7`
     ∷ trial (9 ∷ textWidth ++ (32 ∷ 11 ∷ 48 ∷ 48 ∷ 55 ∷ 13 ∷ [])) (Number Width 7)
     ∷ trial (textWidth ++ (32 ∷ 52 ∷ 50 ∷ 57 ∷ 52 ∷ 57 ∷ 54 ∷ 55 ∷ 51 ∷ 48 ∷ 48 ∷ [])) (Number Width 4294967300)
     ∷ trial (textWidth ++ (32 ∷ 55 ∷ 32 ∷ 56 ∷ [])) Outside
     ∷ trial textWidth Outside
     ∷ trial (textWidth ++ (32 ∷ 55 ∷ 97 ∷ [])) Outside
     ∷ trial (119 ∷ 105 ∷ 100 ∷ 116 ∷ 104 ∷ 32 ∷ 55 ∷ []) Outside
-    -- "TUPLTYPE RGB_ALPHA X"; "TUPLTYPE"; "ENDHDR 1"
+    -- `TUPLTYPE RGB_ALPHA X`; `TUPLTYPE`; `ENDHDR 1`
     ∷ trial (textTupltype ++ (32 ∷ textRgbAlpha ++ (32 ∷ 88 ∷ []))) OtherType
     ∷ trial textTupltype Outside
     ∷ trial (textEndhdr ++ (32 ∷ 49 ∷ [])) Outside

@@ -12,7 +12,7 @@ pub fn tail_of(s: &[u8], k: usize) -> &[u8]
     &s[k..]
 }
 
-// The first k bytes, all where there are fewer. Rules out: nothing where there are fewer; what follows them.
+// The first k bytes, all where there are fewer. Rules out: all where there are more; what follows them.
 pub fn head_of(s: &[u8], k: usize) -> &[u8]
     ensures { λ r. ⌜ now r ≡ take k (now (s .entry)) ⌝ }
 {
