@@ -36,7 +36,9 @@ fn say_of_pam(text: &[u8], line: &[u8]) {
         say(line);
         return;
     }
-    say(b"preview: the input is not a PAM picture: its first line is not P7\n");
+    say(
+        b"preview: the input is not a PAM picture: its first line is not P7 (pngtopam -alphapam makes one of a PNG; --raw takes rows without a header)\n",
+    );
 }
 
 // Where the input ends.
@@ -55,7 +57,7 @@ fn say_refused(text: &[u8], why: Refusal) {
             b"preview: the PAM header is outside the form: a line is wrong, unknown, missing or given twice\n",
         ),
         Refusal::PamUnsupported => say(
-            b"preview: a PAM picture of another kind: only DEPTH 4, MAXVAL 255, TUPLTYPE RGB_ALPHA is taken, as pngtopam -alphapam writes\n",
+            b"preview: the PAM picture is of another kind: only DEPTH 4, MAXVAL 255, TUPLTYPE RGB_ALPHA is taken, as pngtopam -alphapam writes it of a colour PNG (16 bits: pamdepth 255)\n",
         ),
         _ => say_refusal(why),
     }
@@ -113,7 +115,7 @@ pub fn read_header() -> Head {
     }
     say_of_pam(
         &text,
-        b"preview: the PAM header is longer than 4096 bytes, which is the most that preview reads\n",
+        b"preview: the PAM header is longer than the 4096 bytes that are read\n",
     );
     Head::Stopped
 }
