@@ -1,4 +1,4 @@
-//! `jonquilsaw-preview`: the command to deploy. It reads and writes what the repository's `./preview` does, with true statuses.
+//! `jonquilsaw-preview`: the command to deploy. It reads and writes what the repository's `./preview --raw` does, with true statuses.
 //!
 //! Raw RGBA rows come in on standard input and preview rows go out as they become ready. What goes wrong is said in one line on standard error.
 
