@@ -43,7 +43,7 @@ Told s r =
 
 -- ---- outside the form
 module _ (s : List ℕ) (bad : malformed s ≡ true) where
-  eleven : headerNumber s ≡ 11
+  pub eleven : headerNumber s ≡ 11
   unfolding headerNumber
   eleven = first-at (headerCauses s) 0 tt bad
 
@@ -76,7 +76,7 @@ few-of [] h = refl
 few-of (v ∷ []) h = refl
 few-of (v ∷ w ∷ vs) h = absurd (omega (arith, h))
 
-bad-once : (ls : List (List ℕ)) → Bad ls → (strays ls || keysFail once ls) ≡ true
+pub bad-once : (ls : List (List ℕ)) → Bad ls → (strays ls || keysFail once ls) ≡ true
 bad-once ls (inl e) = simp e
 bad-once ls (inr (key, e)) = simp (key-fails once ls key (few-once (given key ls) e), or-true)
 

@@ -77,12 +77,14 @@ unfoldable pub strays : List (List ℕ) → Bool
 strays [] = false
 strays (l ∷ ls) = isOutside (says l) || strays ls
 
+-- keys are told apart by a number
 abbrev pub place : Key → ℕ
 place Width = 0
 place Height = 1
 place Depth = 2
 place Maxval = 3
 
+-- the number that a line gives for a key, if it does
 abbrev pub numbers : Key → Said → List ℕ
 numbers key said.Nothing = []
 numbers key (said.Number other v) = cond (eqb (place key) (place other)) (v ∷ []) []
@@ -96,6 +98,7 @@ unfoldable pub given : Key → List (List ℕ) → List ℕ
 given key [] = []
 given key (l ∷ ls) = numbers key (says l) ++ given key ls
 
+-- the tuple type that a line gives, if it does
 abbrev pub typeOf : Said → List Bool
 typeOf said.Nothing = []
 typeOf (said.Number key v) = []

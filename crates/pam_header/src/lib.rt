@@ -66,8 +66,8 @@ fn verdict(t: Seen, start: usize) -> PamHeader
     }
 }
 
-// What the header says: the size and where the pixels begin, or 11, 12 or 1. A beginning of the input that holds the header says the same
-// (`longer` of proofs/Longer).
+// What the header says: the size and where the pixels begin, or 11, 12 or 1. A beginning of the input will do: any answer but `Unfinished` to one that
+// holds the first line is the answer to the whole input (`settled` of proofs/Longer).
 // Rules out: another first line; a last line without its byte 10 read; a missing depth told as 12; a depth below 4, a maximum above 255, no tuple type
 // passed; only the width tested; pixels that begin at the end of the first line.
 pub fn pam_header(input: &[u8]) -> PamHeader
