@@ -1,14 +1,15 @@
 #!/usr/bin/env python3
-"""A reader of PAM pictures in plain Python, to compare the library with. It was written from the grammar of the request and not from the program, before
+"""A reader and a writer of PAM pictures in plain Python, to compare the library with. It was written from the grammar of the request and not from the program, before
 crates/pam_trials ran: numbers are of any length, and lines and words are cut as the request says. Only 'unfinished', which the request does not have, is taken
 from the library: the comment at PamHeader.
 
   tests/pam_model.py FILE..     a line for each FILE: its name and the answers
-  tests/pam_model.py LIST.rt..  a line for each trial in the calls each(b"..") of a source file: a tilde ends a trial, its first line is its name
+  tests/pam_model.py LIST.rt..  a line for each trial in the calls each(b"..") of a source file: a tilde ends a trial, its first line is its name;
+                                and for each call length(..) and written(..) of the writer
 
 The answers: that to the header alone, a bar, that to the whole input. Of a header: its number, or the size and the place of the first byte after it;
 'unfinished' where the first line is there, every line so far is inside the form, and the end is still to come. Of the whole: its number, or the size and the
-pixels in hexadecimal.
+pixels in hexadecimal. Of the writer: its number, the output, then what the reader says of that.
 """
 import ast
 import re
@@ -17,6 +18,10 @@ import sys
 BLANK = (9, 11, 12, 13, 32)
 DIGITS = b"0123456789"
 LARGEST_SIDE = 16384
+
+
+def wrong_size(width, height):
+    return not (1 <= width <= LARGEST_SIDE and 1 <= height <= LARGEST_SIDE)
 
 
 def lines_of(data):
@@ -72,7 +77,7 @@ def header_of(data):
     width, height, depth, maxval = (given[0] for given in numbers.values())
     if depth != 4 or maxval != 255 or types != [[b"RGB_ALPHA"]]:
         return (12, None, None, None, False)
-    if not (1 <= width <= LARGEST_SIDE and 1 <= height <= LARGEST_SIDE):
+    if wrong_size(width, height):
         return (1, None, None, None, False)
     return (0, width, height, ended, False)
 
@@ -92,20 +97,59 @@ def whole_answer(data):
     return f"{width} by {height}, {pixels.hex()}" if len(pixels) == 4 * width * height else "3"
 
 
-def trials_in(source):
-    """The trials of every list in a source file, in the order in which they stand. A line that ends in a backslash goes on at the next one's first letter."""
-    for text in re.findall(r'\beach\(\s*b"((?:[^"\\]|\\.)*)",?\s*\)', source, re.DOTALL):
-        for trial in ast.literal_eval('b"' + re.sub(r"\\\n\s*", "", text) + '"').split(b"~")[:-1]:
-            name, _, data = trial.partition(b"\n")
-            yield name.decode(), data
+def answers(data):
+    return f"{header_answer(data)} | {whole_answer(data)}"
+
+
+def heading(width, height):
+    """What the writer puts before the pixels."""
+    return f"P7\nWIDTH {width}\nHEIGHT {height}\nDEPTH 4\nMAXVAL 255\nTUPLTYPE RGB_ALPHA\nENDHDR\n".encode()
+
+
+def length_line(width, height):
+    answer = "1" if wrong_size(width, height) else f"{len(heading(width, height)) + 4 * width * height} bytes"
+    return f"length of {width} by {height}: {answer}"
+
+
+def written_line(width, height, pixels, out):
+    number = 0
+    if wrong_size(width, height):
+        number = 1
+    elif len(pixels) != 4 * width * height:
+        number = 3
+    elif len(out) != len(heading(width, height) + pixels):
+        number = 4
+    after = out if number else heading(width, height) + pixels
+    return f"write {width} by {height} of {len(pixels)} bytes into {len(out)}: {number} {after.hex()} | {answers(after)}"
+
+
+def bytes_of(text):
+    """A byte string as the source has it. A line that ends in a backslash goes on at the next one's first letter."""
+    return ast.literal_eval('b"' + re.sub(r"\\\n\s*", "", text) + '"')
+
+
+def lines_in(source):
+    """A line for each trial of a source file, in the order in which they stand."""
+    text = r'b"((?:[^"\\]|\\.)*)"'
+    calls = rf"\beach\(\s*{text},?\s*\)|\blength\((\d+), (\d+)\)|\bwritten\(\s*(\d+),\s*(\d+),\s*{text},\s*&mut \[(\d+); (\d+)\],?\s*\)"
+    for call in re.finditer(calls, source, re.DOTALL):
+        listed, *rest = call.groups()
+        if listed is not None:
+            for trial in bytes_of(listed).split(b"~")[:-1]:
+                name, _, data = trial.partition(b"\n")
+                yield f"{name.decode()}: {answers(data)}"
+        elif rest[0] is not None:
+            yield length_line(int(rest[0]), int(rest[1]))
+        else:
+            yield written_line(int(rest[2]), int(rest[3]), bytes_of(rest[4]), bytes([int(rest[5])]) * int(rest[6]))
 
 
 def main():
     for path in sys.argv[1:]:
         with open(path, "rb") as file:
             data = file.read()
-        for name, data in trials_in(data.decode()) if path.endswith(".rt") else [(path, data)]:
-            print(f"{name}: {header_answer(data)} | {whole_answer(data)}")
+        for line in lines_in(data.decode()) if path.endswith(".rt") else [f"{path}: {answers(data)}"]:
+            print(line)
 
 
 main()

@@ -1,5 +1,6 @@
 // Asks the reader of PAM pictures about inputs inside the form and outside it, every clause at every place of a line. A line for each trial: what is asked; the
 // answer to the header alone, which is its number, or the size and the place of the first pixel; the answer to the whole, its number, or the size and the pixels.
+// Then the writer, and what it wrote read back.
 // The file `stdout` holds what tests/pam_model.py says of the same inputs.
 use pam_header::PamHeader;
 use pam_header::pam_header;
@@ -18,6 +19,7 @@ mod lines;
 mod sizes;
 mod unsupported;
 mod words;
+mod written;
 
 fn main() {
     accepted::trials();
@@ -26,6 +28,7 @@ fn main() {
     lines::trials();
     unsupported::trials();
     sizes::trials();
+    written::trials();
 }
 
 // Runs each trial of a list. A tilde ends a trial; no input has one.
@@ -47,6 +50,11 @@ fn trial(text: &[u8]) {
     let input = tail_of(tail_of(text, name), 1);
     say(head_of(text, name));
     say(b": ");
+    answers(input);
+}
+
+// The answers to the header and to the whole.
+pub(crate) fn answers(input: &[u8]) {
     header(pam_header(input));
     say(b" | ");
     whole(pam_size(input));
@@ -78,17 +86,17 @@ fn whole(answer: Sized) {
     }
 }
 
-fn sides(size: Dimensions) {
+pub(crate) fn sides(size: Dimensions) {
     number(size.width as u64);
     say(b" by ");
     number(size.height as u64);
 }
 
-fn number(n: u64) {
+pub(crate) fn number(n: u64) {
     io::print_decimal(1, n);
 }
 
-fn hex(bytes: &[u8]) {
+pub(crate) fn hex(bytes: &[u8]) {
     let mut i = 0usize;
     while i < bytes.len() {
         io::print_hex(1, wide(bytes[i]), 2);
@@ -100,6 +108,6 @@ fn wide(b: u8) -> u64 {
     b as u64
 }
 
-fn say(text: &[u8]) {
+pub(crate) fn say(text: &[u8]) {
     io::write_all(1, text);
 }
