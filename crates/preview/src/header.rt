@@ -103,7 +103,7 @@ fn is_more(head: Head) -> bool {
 }
 
 // Reads a header of at most 4,096 bytes.
-pub fn read_header() -> Head {
+pub(crate) fn read_header() -> Head {
     let mut text = [0u8; 4096];
     let mut n = 0usize;
     while n < 4096 {
@@ -135,7 +135,7 @@ fn put_header(size: Dimensions, out: &mut [u8]) -> bool {
 }
 
 // Writes the header of a picture of this size, at most 73 bytes; false where something stopped it.
-pub fn write_header(size: Dimensions) -> bool {
+pub(crate) fn write_header(size: Dimensions) -> bool {
     let mut text = [0u8; 73];
     let length = pam_header_length(size);
     match length {
