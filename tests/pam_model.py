@@ -1,6 +1,6 @@
 #!/usr/bin/env python3
-"""A reader and a writer of PAM pictures in plain Python, to compare the library with. It was written from the grammar of the request and not from the program, before
-crates/pam_trials ran: numbers are of any length, and lines and words are cut as the request says. Only 'unfinished', which the request does not have, is taken
+"""A reader and a writer of PAM pictures in plain Python, to compare the library with. It was written from the grammar of the request, by somebody who had read the library,
+before crates/pam_trials ran: numbers are of any length, and lines and words are cut as the request says. Only 'unfinished', which the request does not have, is taken
 from the library: the comment at PamHeader.
 
   tests/pam_model.py FILE..     a line for each FILE: its name and the answers
