@@ -26,9 +26,9 @@ extern "C" {
 #endif
 
 #define JONQUILSAW_VERSION_MAJOR 0
-#define JONQUILSAW_VERSION_MINOR 3
+#define JONQUILSAW_VERSION_MINOR 4
 #define JONQUILSAW_VERSION_PATCH 0
-#define JONQUILSAW_VERSION "0.3.0"
+#define JONQUILSAW_VERSION "0.4.0"
 
 /* The largest side of a picture or a plane. */
 #define JONQUILSAW_MAX_SIDE 16384u
@@ -50,6 +50,9 @@ extern "C" {
 #define JONQUILSAW_WORK_WORDS_OF(lanes, target_width) ((size_t)2 * (lanes) * (target_width))
 #define JONQUILSAW_WORK_WORDS(target_width)                                                        \
     JONQUILSAW_WORK_WORDS_OF(JONQUILSAW_PIXEL_LANES, target_width)
+
+/* The most bytes that the header of a PAM picture takes, as it is written here. */
+#define JONQUILSAW_PAM_HEADER_MOST 73u
 
 /* The order of the bytes of a picture's pixel. */
 typedef enum jonquilsaw_layout {
@@ -73,8 +76,8 @@ typedef enum jonquilsaw_number {
     JONQUILSAW_INVALID_DIMENSIONS = 1,
     /* the crop's right or bottom edge lies beyond the source */
     JONQUILSAW_CROP_OUT_OF_BOUNDS = 2,
-    /* pixels not 4 x width x height bytes; an alpha plane not width x height; offered bytes empty or
-     * no whole number of source rows */
+    /* pixels not 4 x width x height bytes, those after a PAM header among them; an alpha plane not
+     * width x height; offered bytes empty or no whole number of source rows */
     JONQUILSAW_PIXEL_BUFFER_MISMATCH = 3,
     /* an output buffer not of the exact length */
     JONQUILSAW_OUTPUT_LENGTH = 4,
@@ -92,6 +95,13 @@ typedef enum jonquilsaw_number {
     JONQUILSAW_NONE_READY = 9,
     /* a plane of no lanes, or of more than 4; tested straight after 1 */
     JONQUILSAW_INVALID_LANES = 10,
+    /* a PAM header outside the form: another first line or word, a word missing or too many, a
+     * number with a byte that is no digit, no line for width, height, depth or maximum or two of
+     * them, or no end; tested before 1 */
+    JONQUILSAW_PAM_MALFORMED = 11,
+    /* a PAM header inside the form with a depth other than 4, a maximum other than 255, or not
+     * exactly one tuple type, RGB_ALPHA; tested straight after 11 */
+    JONQUILSAW_PAM_UNSUPPORTED = 12,
     /* a layout argument that is none, or a slice for the answer that is too short; tested before all
      * others */
     JONQUILSAW_BOUNDARY = 100
@@ -193,6 +203,48 @@ uint32_t jonquilsaw_unpack_pixels(uint32_t layout, const uint8_t *bytes, size_t 
 uint32_t jonquilsaw_argb_has_alpha(const uint32_t *argb, size_t argb_count, uint32_t *flag,
                                    size_t flag_count);
 
+/* Reads the header of a netpbm PAM picture: P7, then the lines WIDTH, HEIGHT, DEPTH 4, MAXVAL 255
+ * and TUPLTYPE RGB_ALPHA in any order, comments among them, and ENDHDR. Writes to the first four
+ * words of answer the width, the height, and the place in the input where the pixels begin, its low
+ * word and its high one. What stands there and after it plays no part, so a beginning of a picture
+ * that holds the header will do. Refuses with 100 (fewer than four words of answer), 11, 12, 1, in
+ * this order. */
+uint32_t jonquilsaw_read_pam_header(const uint8_t *input, size_t input_count, uint32_t *answer,
+                                    size_t answer_count);
+
+/* Writes to the first word of flag 1 if the input is the beginning of a header, so that the 11 of
+ * jonquilsaw_read_pam_header may be another answer once more bytes have come: the first line is
+ * there, no line is outside the form, and none is ENDHDR. Else 0. Refuses with 100 (no word of
+ * flag). */
+uint32_t jonquilsaw_pam_unfinished(const uint8_t *input, size_t input_count, uint32_t *flag,
+                                   size_t flag_count);
+
+/* Reads a whole PAM picture and writes width and height to the first two words of size. Its pixels,
+ * in the order of JONQUILSAW_RGBA8, are the last 4 x width x height bytes of the input. Refuses with
+ * 100 (fewer than two words of size), 11, 12, 1, 3 (pixel bytes are missing or too many), in this
+ * order. */
+uint32_t jonquilsaw_read_pam(const uint8_t *input, size_t input_count, uint32_t *size,
+                             size_t size_count);
+
+/* Writes the bytes of the header of a PAM picture to the first word of bytes, 65 to 73, or those of
+ * the whole picture. Refuse with 100 (no word of bytes), 1, in this order. */
+uint32_t jonquilsaw_pam_header_length(uint32_t width, uint32_t height, uint32_t *bytes,
+                                      size_t bytes_count);
+uint32_t jonquilsaw_pam_length(uint32_t width, uint32_t height, uint32_t *bytes,
+                               size_t bytes_count);
+
+/* Writes the header of a PAM picture to out, exactly as many bytes as it has: a program that writes
+ * a picture row after row begins with it. Refuses with 1, 4, in this order. */
+uint32_t jonquilsaw_write_pam_header(uint32_t width, uint32_t height, uint8_t *out,
+                                     size_t out_count);
+
+/* Writes a PAM picture of pixels in the order of JONQUILSAW_RGBA8 to out, exactly as many bytes as
+ * it has: the header, its lines in the order above with single spaces, no leading zeros and no
+ * comments, then the pixels. Read, it gives the same size and the same bytes. Refuses with 1, 3, 4,
+ * in this order. */
+uint32_t jonquilsaw_write_pam(uint32_t width, uint32_t height, const uint8_t *pixels,
+                              size_t pixels_count, uint8_t *out, size_t out_count);
+
 /* ---- the same with types: inline, over the functions above */
 
 /* What a number means, in words without a full stop. */
@@ -209,6 +261,9 @@ static inline const char *jonquilsaw_meaning(uint32_t number) {
     case JONQUILSAW_ALL_ACCEPTED: return "all source rows were accepted before";
     case JONQUILSAW_NONE_READY: return "no preview row is ready";
     case JONQUILSAW_INVALID_LANES: return "a plane has 1 to 4 lanes";
+    case JONQUILSAW_PAM_MALFORMED: return "the PAM header is outside the form";
+    case JONQUILSAW_PAM_UNSUPPORTED:
+        return "the PAM picture is not of DEPTH 4, MAXVAL 255 and TUPLTYPE RGB_ALPHA";
     case JONQUILSAW_BOUNDARY: return "the layout is none, or the answer has too little room";
     default: return "no number of this library";
     }
@@ -358,6 +413,45 @@ static inline uint32_t jonquilsaw_picture_resize(jonquilsaw_size source, jonquil
     return jonquilsaw_resize(source.width, source.height, layout, target.width,
                              target.height, pixels, pixels_count, out, out_count, work, work_count,
                              flag, 1);
+}
+
+/* jonquilsaw_read_pam_header; start becomes the place in the input where the pixels begin. */
+static inline uint32_t jonquilsaw_pam_read_header(const uint8_t *input, size_t input_count,
+                                                  jonquilsaw_size *size, size_t *start) {
+    uint32_t words[4] = {0, 0, 0, 0};
+    uint32_t number = jonquilsaw_read_pam_header(input, input_count, words, 4);
+    if (number == JONQUILSAW_OK) {
+        size->width = words[0];
+        size->height = words[1];
+        *start = (size_t)((uint64_t)words[3] << 32 | words[2]);
+    }
+    return number;
+}
+
+/* jonquilsaw_read_pam; pixels becomes the part of the input that they are. */
+static inline uint32_t jonquilsaw_pam_read(const uint8_t *input, size_t input_count,
+                                           jonquilsaw_size *size, const uint8_t **pixels) {
+    uint32_t sides[2] = {0, 0};
+    uint32_t number = jonquilsaw_read_pam(input, input_count, sides, 2);
+    if (number == JONQUILSAW_OK) {
+        size->width = sides[0];
+        size->height = sides[1];
+        *pixels = input + (input_count - (size_t)4 * sides[0] * sides[1]);
+    }
+    return number;
+}
+
+/* jonquilsaw_write_pam_header to the beginning of out, which has room for
+ * JONQUILSAW_PAM_HEADER_MOST bytes; count becomes how many it took. */
+static inline uint32_t jonquilsaw_pam_write_header(jonquilsaw_size size, uint8_t *out,
+                                                   size_t *count) {
+    uint32_t bytes = 0;
+    uint32_t number = jonquilsaw_pam_header_length(size.width, size.height, &bytes, 1);
+    if (number == JONQUILSAW_OK) {
+        *count = bytes;
+        number = jonquilsaw_write_pam_header(size.width, size.height, out, bytes);
+    }
+    return number;
 }
 
 #ifdef __cplusplus

@@ -1,9 +1,14 @@
 #!/usr/bin/env python3
-# draw.py WIDTH HEIGHT: raw RGBA rows of a badge, a gradient with a translucent disc. The samples here and crates/preview/stdin are drawn by it.
+# draw.py [--pam] WIDTH HEIGHT: a badge, a gradient with a translucent disc, as raw RGBA rows or as a PAM picture. The samples here are drawn by it, and the
+# pixels of crates/preview/stdin.
 import sys
 
-width, height = int(sys.argv[1]), int(sys.argv[2])
+words = sys.argv[1:]
+pam = words[:1] == ["--pam"]
+width, height = map(int, words[pam:])
 rows = bytearray()
+if pam:
+    rows += b"P7\nWIDTH %d\nHEIGHT %d\nDEPTH 4\nMAXVAL 255\nTUPLTYPE RGB_ALPHA\nENDHDR\n" % (width, height)
 for y in range(height):
     for x in range(width):
         inside = (2 * x + 1 - width) ** 2 + (2 * y + 1 - height) ** 2 < min(width, height) ** 2

@@ -1,5 +1,5 @@
-/* Calls every function of include/jonquilsaw.h: the trials of docs/SCOPE.md, planes against its formulas, each refusal in its order, and that a refused call
- * leaves every buffer as it was.
+/* Calls every function of include/jonquilsaw.h: the trials of docs/SCOPE.md, planes against its formulas, PAM pictures, each refusal in its order, and that a
+ * refused call leaves every buffer as it was.
  * Every buffer is lent with a page behind it that cannot be touched, since the sanitizers look at this file only. Prints one line. */
 #define _DEFAULT_SOURCE
 #include "jonquilsaw.h"
@@ -343,10 +343,10 @@ static void with_types(void) {
     EXPECT(all_of.x == 0 && all_of.y == 0 && all_of.width == 2 && all_of.height == 3);
 
     /* each number has words of its own */
-    const uint32_t numbers[] = {0, 1, 2, 3, 4, 5, 6, 7, 8, 9, 10, 100, 101};
+    const uint32_t numbers[] = {0, 1, 2, 3, 4, 5, 6, 7, 8, 9, 10, 11, 12, 100, 101};
     for (size_t i = 0; i < sizeof numbers / sizeof *numbers; i++)
         for (size_t k = 0; k < i; k++) EXPECT(strcmp(jonquilsaw_meaning(numbers[i]), jonquilsaw_meaning(numbers[k])) != 0);
-    EXPECT(strcmp(jonquilsaw_meaning(11), jonquilsaw_meaning(4294967295u)) == 0);
+    EXPECT(strcmp(jonquilsaw_meaning(13), jonquilsaw_meaning(4294967295u)) == 0);
     char version[32];
     snprintf(version, sizeof version, "%d.%d.%d", JONQUILSAW_VERSION_MAJOR, JONQUILSAW_VERSION_MINOR, JONQUILSAW_VERSION_PATCH);
     EXPECT(strcmp(version, JONQUILSAW_VERSION) == 0);
@@ -752,6 +752,163 @@ static void planes(void) {
     three_planes();
 }
 
+/* ---- PAM pictures */
+
+#define KEYS "WIDTH 2\nHEIGHT 1\nDEPTH 4\nMAXVAL 255\n"
+#define TYPE "TUPLTYPE RGB_ALPHA\n"
+#define END "ENDHDR\n"
+
+/* A header, or what is none: the number that it gets, its size where that is 0, and whether more bytes could make a header of it. */
+static const struct {
+    const char *text;
+    uint32_t number, width, height, unfinished;
+} headers[] = {
+    {"P7\n" KEYS TYPE END, 0, 2, 1, 0},
+    {"P7\n" TYPE "MAXVAL 255\nDEPTH 4\nHEIGHT 16384\nWIDTH 1\n" END, 0, 1, 16384, 0},
+    {"P7\n# 7 \\ 8\n\n \t\v\f\r\n#\nWIDTH\t0002\nHEIGHT \f 1 \r\n\vDEPTH 04\nMAXVAL 0255\nTUPLTYPE  RGB_ALPHA \n ENDHDR\t\n", 0, 2, 1, 0},
+    /* 11, also where what else is wrong would be 12 or 1 */
+    {"", 11, 0, 0, 0},
+    {"P7", 11, 0, 0, 0},
+    {"P6\n" KEYS TYPE END, 11, 0, 0, 0},
+    {"P7 \n" KEYS TYPE END, 11, 0, 0, 0},
+    {"#\nP7\n" KEYS TYPE END, 11, 0, 0, 0},
+    {"P7\n" KEYS TYPE "ENDHDR", 11, 0, 0, 1},
+    {"P7\n" KEYS TYPE "ENDHDR now\n", 11, 0, 0, 0},
+    {"P7\n" KEYS TYPE " # none\n" END, 11, 0, 0, 0},
+    {"P7\n" KEYS TYPE "width 2\n" END, 11, 0, 0, 0},
+    {"P7\n" KEYS TYPE "WIDTH 2\n" END, 11, 0, 0, 0},
+    {"P7\n" KEYS TYPE "DEPTH 3\n", 11, 0, 0, 0},
+    {"P7\nHEIGHT 1\nDEPTH 4\nMAXVAL 255\n" TYPE END, 11, 0, 0, 0},
+    {"P7\nHEIGHT 1\nDEPTH 4\nMAXVAL 255\n" TYPE, 11, 0, 0, 1},
+    {"P7\nWIDTH\nHEIGHT 0\nDEPTH 3\nMAXVAL 255\n" TYPE END, 11, 0, 0, 0},
+    {"P7\nWIDTH 2 2\nHEIGHT 0\nDEPTH 3\nMAXVAL 255\n" TYPE END, 11, 0, 0, 0},
+    {"P7\nWIDTH +2\nHEIGHT 0\nDEPTH 3\nMAXVAL 255\n" TYPE END, 11, 0, 0, 0},
+    {"P7\n" KEYS "TUPLTYPE\n" END, 11, 0, 0, 0},
+    /* 12, also where a side is wrong */
+    {"P7\nWIDTH 0\nHEIGHT 1\nDEPTH 3\nMAXVAL 255\n" TYPE END, 12, 0, 0, 0},
+    {"P7\nWIDTH 2\nHEIGHT 1\nDEPTH 4294967300\nMAXVAL 255\n" TYPE END, 12, 0, 0, 0},
+    {"P7\nWIDTH 2\nHEIGHT 99999\nDEPTH 4\nMAXVAL 0\n" TYPE END, 12, 0, 0, 0},
+    {"P7\n" KEYS END, 12, 0, 0, 0},
+    {"P7\n" KEYS TYPE TYPE END, 12, 0, 0, 0},
+    {"P7\n" KEYS "TUPLTYPE RGB_ALPHA RGB_ALPHA\n" END, 12, 0, 0, 0},
+    {"P7\n" KEYS "TUPLTYPE GRAYSCALE_ALPHA\n" END, 12, 0, 0, 0},
+    /* 1 */
+    {"P7\nWIDTH 0\nHEIGHT 1\nDEPTH 4\nMAXVAL 255\n" TYPE END, 1, 0, 0, 0},
+    {"P7\nWIDTH 16384\nHEIGHT 16385\nDEPTH 4\nMAXVAL 255\n" TYPE END, 1, 0, 0, 0},
+    {"P7\nWIDTH 4294967298\nHEIGHT 1\nDEPTH 4\nMAXVAL 255\n" TYPE END, 1, 0, 0, 0},
+    {"P7\nWIDTH 18446744073709551618\nHEIGHT 1\nDEPTH 4\nMAXVAL 255\n" TYPE END, 1, 0, 0, 0},
+    {"P7\nWIDTH 1" "00000000000000000000000000000000000000000000000000000000000000000000000000000000000000000000000000\nHEIGHT 1\nDEPTH 4\nMAXVAL 255\n" TYPE END, 1, 0, 0, 0},
+};
+
+/* The bytes of a text, without its 0. */
+static uint8_t *text_of(const char *text, size_t *n) {
+    *n = strlen(text);
+    uint8_t *at = bytes_of(*n, 0);
+    memcpy(at, text, *n);
+    return at;
+}
+
+static void pam_headers(void) {
+    uint32_t *answer = words_of(5, 7), *flag = words_of(2, 7), *size = words_of(3, 7);
+    for (size_t i = 0; i < sizeof headers / sizeof *headers; i++) {
+        size_t n;
+        uint8_t *input = text_of(headers[i].text, &n), *kept = text_of(headers[i].text, &n);
+        const uint32_t number = headers[i].number;
+        EXPECT(jonquilsaw_read_pam_header(input, n, answer, 3) == JONQUILSAW_BOUNDARY && words_all(answer, 5, 7));
+        EXPECT(jonquilsaw_read_pam(input, n, size, 1) == JONQUILSAW_BOUNDARY && words_all(size, 3, 7));
+        EXPECT(jonquilsaw_pam_unfinished(input, n, flag, 0) == JONQUILSAW_BOUNDARY && words_all(flag, 2, 7));
+        EXPECT(jonquilsaw_read_pam_header(input, n, answer, 5) == number);
+        if (number == 0) {
+            EXPECT(answer[0] == headers[i].width && answer[1] == headers[i].height && answer[2] == n && answer[3] == 0 && answer[4] == 7);
+            for (int w = 0; w < 4; w++) answer[w] = 7;
+        }
+        EXPECT(words_all(answer, 5, 7));
+        /* no pixels follow */
+        EXPECT(jonquilsaw_read_pam(input, n, size, 3) == (number == 0 ? JONQUILSAW_PIXEL_BUFFER_MISMATCH : number) && words_all(size, 3, 7));
+        EXPECT(jonquilsaw_pam_unfinished(input, n, flag, 2) == 0 && flag[0] == headers[i].unfinished && flag[1] == 7);
+        flag[0] = 7;
+        EXPECT(memcmp(input, kept, n) == 0);
+        give_back(input, n);
+        give_back(kept, n);
+    }
+    EXPECT(jonquilsaw_read_pam_header(NULL, 0, answer, 5) == JONQUILSAW_PAM_MALFORMED && words_all(answer, 5, 7));
+}
+
+/* Every beginning of a picture, and the picture with bytes too many. */
+static void pam_pieces(void) {
+    const char *text = "P7\n" KEYS TYPE END;
+    const size_t start = strlen(text), whole = start + 8;
+    uint32_t *answer = words_of(4, 7), *flag = words_of(1, 7), *size = words_of(3, 7);
+    for (size_t n = 0; n <= whole + 8; n++) {
+        uint8_t *input = bytes_of(n, 10);
+        memcpy(input, text, n < start ? n : start);
+        EXPECT(jonquilsaw_read_pam_header(input, n, answer, 4) == (n < start ? 11u : 0u));
+        EXPECT(jonquilsaw_pam_unfinished(input, n, flag, 1) == 0 && flag[0] == (n >= 3 && n < start));
+        EXPECT(n < start ? words_all(answer, 4, 7) : answer[0] == 2 && answer[1] == 1 && answer[2] == start && answer[3] == 0);
+        EXPECT(jonquilsaw_read_pam(input, n, size, 3) == (n < start ? 11u : n == whole ? 0u : 3u));
+        EXPECT(n == whole ? size[0] == 2 && size[1] == 1 && size[2] == 7 : words_all(size, 3, 7));
+        jonquilsaw_size typed = {5, 6};
+        size_t at = 9;
+        const uint8_t *pixels = NULL;
+        EXPECT(jonquilsaw_pam_read_header(input, n, &typed, &at) == (n < start ? 11u : 0u));
+        EXPECT(n < start ? typed.width == 5 && typed.height == 6 && at == 9 : typed.width == 2 && typed.height == 1 && at == start);
+        typed.width = 5;
+        EXPECT(jonquilsaw_pam_read(input, n, &typed, &pixels) == (n < start ? 11u : n == whole ? 0u : 3u));
+        EXPECT(n == whole ? typed.width == 2 && typed.height == 1 && pixels == input + start : typed.width == 5 && pixels == NULL);
+        for (int w = 0; w < 4; w++) answer[w] = 7;
+        for (int w = 0; w < 2; w++) size[w] = 7;
+        give_back(input, n);
+    }
+}
+
+/* What is written is the form, byte for byte, and reads back; each refusal in its order keeps every buffer. */
+static void pam_written(void) {
+    const jonquilsaw_size sizes[] = {{1, 1}, {9, 10}, {10, 9}, {99, 100}, {100, 99}, {7, 999}, {1000, 3}, {9999, 1}, {1, 10000}, {16384, 2}, {2, 16384}};
+    for (size_t i = 0; i < sizeof sizes / sizeof *sizes; i++) {
+        const uint32_t w = sizes[i].width, h = sizes[i].height;
+        const size_t n = (size_t)4 * w * h;
+        char text[128];
+        const size_t start = (size_t)snprintf(text, sizeof text, "P7\nWIDTH %u\nHEIGHT %u\nDEPTH 4\nMAXVAL 255\nTUPLTYPE RGB_ALPHA\nENDHDR\n", w, h);
+        uint32_t *bytes = words_of(2, 7), *size = words_of(2, 7);
+        EXPECT(jonquilsaw_pam_header_length(w, h, bytes, 2) == 0 && bytes[0] == start && bytes[1] == 7);
+        EXPECT(jonquilsaw_pam_length(w, h, bytes, 1) == 0 && bytes[0] == start + n && bytes[1] == 7);
+        uint8_t *pixels = bytes_of(n, 0), *out = bytes_of(start + n, 9), *head = bytes_of(start, 9), *room = bytes_of(JONQUILSAW_PAM_HEADER_MOST, 9);
+        for (size_t k = 0; k < n; k++) pixels[k] = (uint8_t)(k * 37 + k / 251);
+        EXPECT(jonquilsaw_write_pam_header(w, h, head, start - 1) == JONQUILSAW_OUTPUT_LENGTH && all(head, start, 9));
+        EXPECT(jonquilsaw_write_pam_header(w, h, head, start) == 0 && memcmp(head, text, start) == 0);
+        EXPECT(jonquilsaw_write_pam(w, h, pixels, n - 1, out, start + n) == JONQUILSAW_PIXEL_BUFFER_MISMATCH && all(out, start + n, 9));
+        EXPECT(jonquilsaw_write_pam(w, h, pixels, n - 1, out, start + n - 1) == JONQUILSAW_PIXEL_BUFFER_MISMATCH && all(out, start + n, 9));
+        EXPECT(jonquilsaw_write_pam(w, h, pixels, n, out, start + n - 1) == JONQUILSAW_OUTPUT_LENGTH && all(out, start + n, 9));
+        EXPECT(jonquilsaw_write_pam(w, h, pixels, n, out, start + n) == 0 && memcmp(out, text, start) == 0 && memcmp(out + start, pixels, n) == 0);
+        EXPECT(jonquilsaw_read_pam(out, start + n, size, 2) == 0 && size[0] == w && size[1] == h);
+        size_t count = 0;
+        EXPECT(jonquilsaw_pam_write_header(sizes[i], room, &count) == 0 && count == start && memcmp(room, text, start) == 0 && all(room + start, JONQUILSAW_PAM_HEADER_MOST - start, 9));
+        give_back(pixels, n);
+        give_back(out, start + n);
+    }
+    uint32_t *bytes = words_of(2, 7);
+    uint8_t *out = bytes_of(80, 9), *pixels = bytes_of(4, 1);
+    size_t count = 5;
+    EXPECT(jonquilsaw_pam_length(16384, 16384, bytes, 1) == 0 && bytes[0] == 1073741824u + JONQUILSAW_PAM_HEADER_MOST);
+    bytes[0] = 7;
+    const jonquilsaw_size none[] = {{0, 1}, {1, 0}, {16385, 1}, {1, 16385}, {4294967295u, 1}};
+    for (size_t i = 0; i < sizeof none / sizeof *none; i++) {
+        const uint32_t w = none[i].width, h = none[i].height;
+        EXPECT(jonquilsaw_pam_header_length(w, h, bytes, 0) == JONQUILSAW_BOUNDARY && jonquilsaw_pam_length(w, h, bytes, 0) == JONQUILSAW_BOUNDARY);
+        EXPECT(jonquilsaw_pam_header_length(w, h, bytes, 2) == JONQUILSAW_INVALID_DIMENSIONS && jonquilsaw_pam_length(w, h, bytes, 2) == JONQUILSAW_INVALID_DIMENSIONS);
+        EXPECT(jonquilsaw_write_pam_header(w, h, out, 80) == JONQUILSAW_INVALID_DIMENSIONS);
+        EXPECT(jonquilsaw_write_pam(w, h, pixels, 4, out, 80) == JONQUILSAW_INVALID_DIMENSIONS);
+        EXPECT(jonquilsaw_pam_write_header(none[i], out, &count) == JONQUILSAW_INVALID_DIMENSIONS && count == 5);
+    }
+    EXPECT(words_all(bytes, 2, 7) && all(out, 80, 9) && all(pixels, 4, 1));
+}
+
+static void pam(void) {
+    pam_headers();
+    pam_pieces();
+    pam_written();
+}
+
 int main(void) {
     starts();
     offers_and_takes();
@@ -764,6 +921,7 @@ int main(void) {
     sizes();
     with_types();
     planes();
+    pam();
     printf("c: %lu checks, %lu failed\n", checks, failures);
     return failures == 0 ? 0 : 1;
 }

@@ -2,7 +2,7 @@
 //!
 //! Each function takes slices and hands the library a pointer and a count for each, so the library's one demand holds by Rust's own rules: live memory for so many
 //! elements, aligned, and shared with no other slice of the call that is written. The library touches nothing else, keeps no pointer and never
-//! unwinds; that is proved of it. The counts of 14 words and of one or two answer words are fixed here by array types.
+//! unwinds; that is proved of it. The counts of 14 words and of one, two or four answer words are fixed here by array types.
 #![allow(unsafe_code)]
 
 /// The words of a job's record.
@@ -121,6 +121,13 @@ mod raw {
             flag_count: usize,
         ) -> u32;
         pub fn jonquilsaw_scaled(width: u32, height: u32, target_width: u32, target_height: u32, size: *mut u32, size_count: usize) -> u32;
+        pub fn jonquilsaw_read_pam_header(input: *const u8, input_count: usize, answer: *mut u32, answer_count: usize) -> u32;
+        pub fn jonquilsaw_pam_unfinished(input: *const u8, input_count: usize, flag: *mut u32, flag_count: usize) -> u32;
+        pub fn jonquilsaw_read_pam(input: *const u8, input_count: usize, size: *mut u32, size_count: usize) -> u32;
+        pub fn jonquilsaw_pam_header_length(width: u32, height: u32, bytes: *mut u32, bytes_count: usize) -> u32;
+        pub fn jonquilsaw_pam_length(width: u32, height: u32, bytes: *mut u32, bytes_count: usize) -> u32;
+        pub fn jonquilsaw_write_pam_header(width: u32, height: u32, out: *mut u8, out_count: usize) -> u32;
+        pub fn jonquilsaw_write_pam(width: u32, height: u32, pixels: *const u8, pixels_count: usize, out: *mut u8, out_count: usize) -> u32;
     }
 }
 
@@ -309,4 +316,52 @@ pub fn scaled(size: [u32; 2], target: [u32; 2]) -> Result<[u32; 2], u32> {
     // SAFETY: `answer` is an exclusive borrow, so live and aligned, with its own length.
     let number = unsafe { raw::jonquilsaw_scaled(size[0], size[1], target[0], target[1], answer.as_mut_ptr(), answer.len()) };
     answered(number).map(|()| answer)
+}
+
+/// Width, height, and the place where the pixels begin as a low and a high word.
+pub fn read_pam_header(input: &[u8]) -> Result<[u32; 4], u32> {
+    let mut answer = [0; 4];
+    // SAFETY: `answer` is an exclusive borrow and `input` a shared one, so both are live, aligned and apart, each with its own length.
+    let number = unsafe { raw::jonquilsaw_read_pam_header(input.as_ptr(), input.len(), answer.as_mut_ptr(), answer.len()) };
+    answered(number).map(|()| answer)
+}
+
+pub fn pam_unfinished(input: &[u8]) -> Result<bool, u32> {
+    let mut flag = [0];
+    // SAFETY: `flag` is an exclusive borrow and `input` a shared one, so both are live, aligned and apart, each with its own length.
+    let number = unsafe { raw::jonquilsaw_pam_unfinished(input.as_ptr(), input.len(), flag.as_mut_ptr(), flag.len()) };
+    answered(number).map(|()| flag[0] != 0)
+}
+
+pub fn read_pam(input: &[u8]) -> Result<[u32; 2], u32> {
+    let mut size = [0; 2];
+    // SAFETY: `size` is an exclusive borrow and `input` a shared one, so both are live, aligned and apart, each with its own length.
+    let number = unsafe { raw::jonquilsaw_read_pam(input.as_ptr(), input.len(), size.as_mut_ptr(), size.len()) };
+    answered(number).map(|()| size)
+}
+
+pub fn pam_header_length(size: [u32; 2]) -> Result<u32, u32> {
+    let mut bytes = [0];
+    // SAFETY: `bytes` is an exclusive borrow, so live and aligned, with its own length.
+    let number = unsafe { raw::jonquilsaw_pam_header_length(size[0], size[1], bytes.as_mut_ptr(), bytes.len()) };
+    answered(number).map(|()| bytes[0])
+}
+
+pub fn pam_length(size: [u32; 2]) -> Result<u32, u32> {
+    let mut bytes = [0];
+    // SAFETY: `bytes` is an exclusive borrow, so live and aligned, with its own length.
+    let number = unsafe { raw::jonquilsaw_pam_length(size[0], size[1], bytes.as_mut_ptr(), bytes.len()) };
+    answered(number).map(|()| bytes[0])
+}
+
+pub fn write_pam_header(size: [u32; 2], out: &mut [u8]) -> Result<(), u32> {
+    // SAFETY: `out` is an exclusive borrow, so live and aligned, with its own length.
+    let number = unsafe { raw::jonquilsaw_write_pam_header(size[0], size[1], out.as_mut_ptr(), out.len()) };
+    answered(number)
+}
+
+pub fn write_pam(size: [u32; 2], pixels: &[u8], out: &mut [u8]) -> Result<(), u32> {
+    // SAFETY: `out` is an exclusive borrow and `pixels` a shared one, so both are live, aligned and apart, each with its own length.
+    let number = unsafe { raw::jonquilsaw_write_pam(size[0], size[1], pixels.as_ptr(), pixels.len(), out.as_mut_ptr(), out.len()) };
+    answered(number)
 }

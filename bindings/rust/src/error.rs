@@ -60,8 +60,8 @@ pub enum Error {
         /// Where the source ends.
         limit: u32,
     },
-    /// Pixels that are not 4 × width × height bytes, an alpha plane that is not width × height, or offered bytes that are empty or no whole number of source
-    /// rows.
+    /// Pixels that are not 4 × width × height bytes, those after a PAM header among them; an alpha plane that is not width × height; or offered bytes that are
+    /// empty or no whole number of source rows.
     PixelBufferMismatch {
         /// The bytes that fit; of an offer, those of one row.
         expected: usize,
@@ -95,6 +95,11 @@ pub enum Error {
         /// How many there are.
         value: u32,
     },
+    /// A PAM header outside the form: another first line or word, a word missing or too many, a number with a byte that is no digit, no line for width, height,
+    /// depth or maximum or two of them, or no end.
+    PamMalformed,
+    /// A PAM header inside the form with a depth other than 4, a maximum other than 255, or not exactly one tuple type, `RGB_ALPHA`.
+    PamUnsupported,
 }
 
 /// What a call was given, as far as an error names it: the length that fits and the one there was. A call that takes no such thing leaves it out.
@@ -108,7 +113,7 @@ pub(crate) struct Given {
 }
 
 impl Error {
-    /// The library's number, 1 to 10.
+    /// The library's number, 1 to 12.
     #[must_use]
     pub const fn number(self) -> u32 {
         match self {
@@ -122,6 +127,8 @@ impl Error {
             Self::AllAccepted => 8,
             Self::NoneReady => 9,
             Self::InvalidLanes { .. } => 10,
+            Self::PamMalformed => 11,
+            Self::PamUnsupported => 12,
         }
     }
 
@@ -141,6 +148,8 @@ impl Error {
             8 => Self::AllAccepted,
             9 => Self::NoneReady,
             10 => Self::InvalidLanes { value: given.lanes },
+            11 => Self::PamMalformed,
+            12 => Self::PamUnsupported,
             // 100: a layout that is none or too short an answer, which the boundary's types leave no room for.
             _ => unreachable!("the library answered with number {number}"),
         }
@@ -162,6 +171,8 @@ impl fmt::Display for Error {
             Self::AllAccepted => f.write_str("all source rows were accepted before"),
             Self::NoneReady => f.write_str("no preview row is ready"),
             Self::InvalidLanes { value } => write!(f, "there are {value} lanes: a plane has 1 to {MAX_LANES}"),
+            Self::PamMalformed => f.write_str("the PAM header is outside the form"),
+            Self::PamUnsupported => f.write_str("the PAM picture is not of DEPTH 4, MAXVAL 255 and TUPLTYPE RGB_ALPHA"),
         }
     }
 }
@@ -170,10 +181,11 @@ impl core::error::Error for Error {}
 
 #[cfg(feature = "std")]
 impl From<Error> for std::io::Error {
-    /// Of the kind `WouldBlock` where the call has to wait its turn (a row ready, or none), else `InvalidInput`.
+    /// Of the kind `WouldBlock` where the call has to wait its turn (a row ready, or none), `InvalidData` for a PAM header, else `InvalidInput`.
     fn from(why: Error) -> Self {
         let kind = match why {
             Error::RowReady | Error::NoneReady => std::io::ErrorKind::WouldBlock,
+            Error::PamMalformed | Error::PamUnsupported => std::io::ErrorKind::InvalidData,
             _ => std::io::ErrorKind::InvalidInput,
         };
         Self::new(kind, why)
@@ -193,7 +205,7 @@ mod tests {
 
     #[test]
     fn variants_are_the_numbers() {
-        for number in 3..=10 {
+        for number in 3..=12 {
             assert_eq!(Error::of(number, given()).number(), number);
         }
         let size = Dimensions::new(5, 4).unwrap();
@@ -231,6 +243,8 @@ mod tests {
             (Error::of(4, given()), "the output buffer has 5 bytes and not 4"),
             (Error::of(5, given()), "there are 3 work values and not 16"),
             (Error::of(10, given()), "there are 5 lanes: a plane has 1 to 4"),
+            (Error::of(11, given()), "the PAM header is outside the form"),
+            (Error::of(12, given()), "the PAM picture is not of DEPTH 4, MAXVAL 255 and TUPLTYPE RGB_ALPHA"),
         ] {
             assert_eq!(why.to_string(), said);
         }
@@ -245,6 +259,8 @@ mod tests {
             (8, ErrorKind::InvalidInput),
             (9, ErrorKind::WouldBlock),
             (10, ErrorKind::InvalidInput),
+            (11, ErrorKind::InvalidData),
+            (12, ErrorKind::InvalidData),
         ] {
             let why = io::Error::from(Error::of(number, given()));
             assert_eq!(why.kind(), kind);

@@ -128,7 +128,7 @@ impl Dimensions {
     /// ```
     pub fn scaled(self, width: u32, height: u32) -> Result<Self> {
         match boundary::scaled(self.words(), [width, height]) {
-            Ok([width, height]) => Ok(Self { width, height }),
+            Ok(words) => Ok(Self::of_words(words)),
             Err(_) => Err(self.no_size(width, height)),
         }
     }
@@ -148,6 +148,11 @@ impl Dimensions {
 
     pub(crate) const fn words(self) -> [u32; 2] {
         [self.width, self.height]
+    }
+
+    /// The size that the library told by two words: both are in range.
+    pub(crate) const fn of_words([width, height]: [u32; 2]) -> Self {
+        Self { width, height }
     }
 }
 

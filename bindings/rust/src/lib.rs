@@ -7,10 +7,11 @@
 //! - [`Job`] is the library's own job over lent buffers: whole rows in by [`Job::offer`], a row out by [`Job::take`], no heap.
 //! - [`Preview::plane`] and [`Job::start_plane`] scale a plane of 1 to 4 lanes; [`Preview::planes`] and [`Planes`] scale luma and both chroma planes of a
 //!   4:2:0 picture.
+//! - [`pam`] reads and writes netpbm's PAM pictures, whole or in pieces.
 //! - [`Dimensions::scaled`] derives a target size from one side; [`Dimensions::chroma`] halves both.
 //!
 //! Without the feature `std`, which is on by default, the crate is `no_std` and uses no heap: [`Job`], [`Planes`], [`ImageRef`], [`apply_alpha_plane`],
-//! [`Dimensions`], [`Rect`] and [`Error`] are there.
+//! [`pam`], [`Dimensions`], [`Rect`] and [`Error`] are there.
 //!
 //! Rows stand one after another without gaps. A picture's pixels are 4 bytes each in a [`PixelLayout`]'s order, and their colours are not premultiplied by
 //! alpha. A plane's pixels are 1 to 4 lanes, a byte each, side by side, which are scaled as they are.
@@ -42,6 +43,7 @@ mod error;
 mod geometry;
 mod image;
 mod job;
+pub mod pam;
 mod planes;
 #[cfg(feature = "std")]
 mod preview;

@@ -1,6 +1,6 @@
-//! What needs no heap, without the feature `std` too: jobs and pictures over lent buffers.
+//! What needs no heap, without the feature `std` too: jobs and pictures over lent buffers, PAM pictures among them.
 
-use jonquilsaw::{Dimensions, Error, ImageRef, Job, Kind, PixelLayout, Planes, Rect, apply_alpha_plane};
+use jonquilsaw::{Dimensions, Error, ImageRef, Job, Kind, PixelLayout, Planes, Rect, apply_alpha_plane, pam};
 
 const PICTURE: [u8; 24] = [10, 20, 30, 255, 40, 50, 60, 255, 70, 80, 90, 255, 15, 25, 35, 255, 45, 55, 65, 255, 75, 85, 95, 255];
 
@@ -64,5 +64,20 @@ fn planes_over_lent_buffers() -> Result<(), Error> {
         job.take(&mut out[2..3], work)?;
         assert_eq!(out[..3], [14, 27, value + 10]);
     }
+    Ok(())
+}
+
+#[test]
+fn a_pam_picture_in_lent_buffers() -> Result<(), Error> {
+    let size = Dimensions::new(2, 3)?;
+    let mut file = [0; 65 + 24];
+    pam::write(size, &PICTURE, &mut file)?;
+    let picture = pam::read(&file)?;
+    assert_eq!((picture.dimensions(), picture.as_bytes(), pam::file_len(size)), (size, &PICTURE[..], file.len()));
+    let (mut out, mut work) = ([0; 4], [0; 8]);
+    assert_eq!(picture.resize_into(Dimensions::new(1, 1)?, &mut out, &mut work), Ok(false));
+    assert_eq!(pam::read_header(&file[..64]), Ok(None));
+    assert_eq!(pam::read_header(&file[..65]), Ok(Some(pam::Header { size, start: 65 })));
+    assert_eq!(pam::write_header(size, &mut [0; pam::MAX_HEADER_LEN]), &file[..65]);
     Ok(())
 }

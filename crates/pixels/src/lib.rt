@@ -50,6 +50,10 @@ pub enum Refusal {
     NoneReady,
     // a plane of no lanes, or of more than MAX_LANES
     InvalidLanes,
+    // a PAM header outside the form
+    PamMalformed,
+    // a PAM header inside the form, of another depth, maximum or tuple type than the reader takes
+    PamUnsupported,
 }
 
 // Whether what was asked may be done, or why not.

@@ -19,6 +19,8 @@ impl Refusal {
             Refusal::AllAccepted => 8,
             Refusal::NoneReady => 9,
             Refusal::InvalidLanes => 10,
+            Refusal::PamMalformed => 11,
+            Refusal::PamUnsupported => 12,
         }
     }
 }

@@ -1,6 +1,11 @@
-// preview WIDTH HEIGHT TARGET_WIDTH TARGET_HEIGHT [X Y CROP_WIDTH CROP_HEIGHT]
-// Reads raw RGBA rows from standard input and writes raw RGBA preview rows to standard output as they become ready, one row of each held at a time.
-// A target side of 0 is derived from the crop's size. What goes wrong is said in one line on standard error.
+// preview [--raw WIDTH HEIGHT] TARGET_WIDTH TARGET_HEIGHT [X Y CROP_WIDTH CROP_HEIGHT]
+// Reads a PAM picture from standard input and writes a PAM preview to standard output, its rows as they become ready, one row of each held at a time; with
+// --raw, raw RGBA rows of both. A target side of 0 is derived from the crop's size. What goes wrong is said in one line on standard error.
+mod header;
+
+use header::Head;
+use header::read_header;
+use header::write_header;
 use job::Job;
 use job::Offered;
 use job::Taken;
@@ -13,6 +18,7 @@ use job_start::start;
 use libc::STDERR_FILENO;
 use libc::STDIN_FILENO;
 use libc::STDOUT_FILENO;
+use pam_text::same;
 use pixels::Checked;
 use pixels::Dimensions;
 use pixels::PIXEL_LANES;
@@ -26,6 +32,12 @@ ghost use Prim.Native.Nat.{_≤_};
 ghost use lib.ListN.{length};
 ghost use Rattle.pixels.specs.Sizes.{rowBytes};
 ghost use Rattle.job_rules.specs.Rules.{lanesOf};
+
+// What comes in and goes out.
+enum Form {
+    Pam,
+    Raw,
+}
 
 fn say(line: &[u8]) {
     io::write_all(STDERR_FILENO, line);
@@ -49,14 +61,24 @@ fn say_no_number(i: usize) {
     say(b" is not a decimal number below 4294967296\n");
 }
 
-// Puts the arguments into `numbers`; at the first that is no number says so and answers false. `count` has the program's own name in it.
-fn arguments(numbers: &mut [u32; 8], count: usize) -> bool {
+// Whether the first argument is the option.
+fn is_raw() -> bool {
+    let mut text = io::buffer();
+    let n = os::arg(1, &mut text);
+    same(&text[..n], b"--raw")
+}
+
+// Puts the arguments from `first` on into `numbers`; at the first that is no number says so and answers false. `count` has all words in it, the program's
+// own name too.
+fn arguments(numbers: &mut [u32; 8], first: usize, count: usize) -> bool
+    requires { ⌜ first ≤ 2 ⌝ }
+{
     let mut i = 0usize;
     while i < 8 {
-        if i + 1 == count {
+        if first + i == count {
             return true;
         }
-        let n = argument(i + 1);
+        let n = argument(first + i);
         if NONE <= n {
             say_no_number(i + 1);
             return false;
@@ -82,6 +104,17 @@ fn input_ended() -> bool {
     n == 0
 }
 
+// ---- the output
+
+// False where standard output does not take all of it, which is said.
+fn write_out(bytes: &[u8]) -> bool {
+    let going = io::write_all(STDOUT_FILENO, bytes);
+    if !going {
+        os::fail(b"preview: standard output");
+    }
+    going
+}
+
 // ---- the rows
 
 // A job on its way, or stopped by what was said.
@@ -102,10 +135,7 @@ fn take_row(job: Job, out: &mut [u8], work: &mut [u32]) -> Run {
             }
         }
         Taken::Wrote { job: next } => {
-            let going = io::write_all(STDOUT_FILENO, out);
-            if !going {
-                os::fail(b"preview: standard output");
-            }
+            let going = write_out(out);
             Run { job: next, going }
         }
     }
@@ -208,27 +238,39 @@ fn close(whole: bool) {
     }
 }
 
+// Writes the preview's header, where its form has one; false where something stopped it.
+fn open(form: Form, target: Dimensions) -> bool {
+    match form {
+        Form::Pam => write_header(target),
+        Form::Raw => true,
+    }
+}
+
 // One row of the widest picture in, one out, and the work values of the widest preview.
-fn scale(source: Dimensions, crop: Rect, target: Dimensions) {
+fn scale(form: Form, source: Dimensions, crop: Rect, target: Dimensions) {
     let mut row = [0u8; 65536];
     let mut out = [0u8; 65536];
     let mut work = [0u32; 131072];
     let started = start(source, PixelLayout::Rgba8, crop, target, &mut work);
     match started {
         Started::Refused { why } => say_refusal(why),
-        Started::Fresh { job } => close(run_job(job, &mut row, &mut out, &mut work)),
+        Started::Fresh { job } => {
+            if open(form, target) {
+                close(run_job(job, &mut row, &mut out, &mut work));
+            }
+        }
     }
 }
 
 // The preview's size, derived where a side of it is 0: the crop lies within the picture.
-fn derive(source: Dimensions, crop: Rect, width: u32, height: u32) {
+fn derive(form: Form, source: Dimensions, crop: Rect, width: u32, height: u32) {
     let sized = Dimensions {
         width: crop.width,
         height: crop.height,
     }.scaled(width, height);
     match sized {
         Sized::Refused(why) => say_refusal(why),
-        Sized::Size(target) => scale(source, crop, target),
+        Sized::Size(target) => scale(form, source, crop, target),
     }
 }
 
@@ -242,7 +284,7 @@ fn either(side: u32, other: u32) -> u32 {
 
 // The sizes that the arguments ask for, tested before a side is derived: from a crop beyond the picture none is. A side that is still to be derived passes
 // as the other one does.
-fn preview(source: Dimensions, crop: Rect, width: u32, height: u32) {
+fn preview(form: Form, source: Dimensions, crop: Rect, width: u32, height: u32) {
     let plan = Plan {
         source,
         layout: PixelLayout::Rgba8,
@@ -257,33 +299,64 @@ fn preview(source: Dimensions, crop: Rect, width: u32, height: u32) {
     let checked = check_start(plan, 131072);
     match checked {
         Checked::Refused(why) => say_refusal(why),
-        Checked::Fit => derive(source, crop, width, height),
+        Checked::Fit => derive(form, source, crop, width, height),
     }
 }
 
-// The picture's size, the preview's, and the crop: the whole picture where the arguments name none.
-fn ask(n: &[u32; 8], cropped: bool) {
-    let source = Dimensions {
-        width: n[0],
-        height: n[1],
-    };
+// The crop, or the whole picture where the arguments name none.
+fn crop_of(source: Dimensions, cropped: bool, crop: Rect) -> Rect {
     if cropped {
-        preview(source, Rect::new(n[4], n[5], n[6], n[7]), n[2], n[3]);
+        return crop;
+    }
+    Rect::new(0, 0, source.width, source.height)
+}
+
+// ---- the two forms. `count` has all words in it, the program's own name too
+
+fn say_usage() {
+    say(
+        b"usage: preview [--raw WIDTH HEIGHT] TARGET_WIDTH TARGET_HEIGHT [X Y CROP_WIDTH CROP_HEIGHT]\n",
+    );
+}
+
+// The size stands in the arguments.
+fn preview_raw(count: usize) {
+    if count != 6 && count != 10 {
+        say_usage();
         return;
     }
-    preview(source, Rect::new(0, 0, n[0], n[1]), n[2], n[3]);
+    let mut n = [0u32; 8];
+    if arguments(&mut n, 2, count) {
+        let source = Dimensions {
+            width: n[0],
+            height: n[1],
+        };
+        let crop = crop_of(source, count == 10, Rect::new(n[4], n[5], n[6], n[7]));
+        preview(Form::Raw, source, crop, n[2], n[3]);
+    }
+}
+
+// The size stands in the header.
+fn preview_pam(count: usize) {
+    if count != 3 && count != 7 {
+        say_usage();
+        return;
+    }
+    let mut n = [0u32; 8];
+    if arguments(&mut n, 1, count) {
+        let head = read_header();
+        if let Head::Size(source) = head {
+            let crop = crop_of(source, count == 7, Rect::new(n[2], n[3], n[4], n[5]));
+            preview(Form::Pam, source, crop, n[0], n[1]);
+        }
+    }
 }
 
 fn main() {
     let count = os::arg_count();
-    if count != 5 && count != 9 {
-        say(
-            b"usage: preview WIDTH HEIGHT TARGET_WIDTH TARGET_HEIGHT [X Y CROP_WIDTH CROP_HEIGHT]\n",
-        );
+    if is_raw() {
+        preview_raw(count);
         return;
     }
-    let mut n = [0u32; 8];
-    if arguments(&mut n, count) {
-        ask(&n, count == 9);
-    }
+    preview_pam(count);
 }

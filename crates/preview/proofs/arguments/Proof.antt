@@ -7,10 +7,10 @@ use Rattle.preview.proofs.arguments.Statement.{statement}
 use Rattle.preview.proofs.arguments.Tie as tie
 
 abbrev Inv-loop : tie.InvT-loop
-Inv-loop numbers₀ count i₀ numbers i = i ≤ 8
+Inv-loop numbers₀ first count i₀ numbers i = i ≤ 8
 
 abbrev μ-loop : tie.MeasureT-loop
-μ-loop numbers₀ count i₀ numbers i = 8 - i
+μ-loop numbers₀ first count i₀ numbers i = 8 - i
 
 loop-holds : tie.Need-loop-holds Inv-loop μ-loop
 loop-holds c = search needs

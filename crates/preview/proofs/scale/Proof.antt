@@ -24,6 +24,9 @@ say-refusal-requires c κs = search needs
 enum-known-started-2 : tie.Need-enum-known-started-2
 enum-known-started-2 c = search needs
 
+open-requires : tie.Need-open-requires
+open-requires c κs = search needs
+
 slice-aggregate-run-job : tie.Need-slice-aggregate-run-job
 slice-aggregate-run-job c = search needs
 
@@ -35,7 +38,7 @@ slice-aggregate-run-job-3 c = search needs
 
 run-job-requires : tie.Need-run-job-requires
 run-job-requires c κs =
-    let b = c .before .before .before .before in
+    let b = c .before .before .before .before .before .before in
     let s = b .before .before .before .start in
     let g = b .before .before .before .before .before .args in
     let j = b .started2 .given in
@@ -51,6 +54,9 @@ returns c = search needs
 returns-2 : tie.Need-returns-2
 returns-2 c = search needs
 
+returns-3 : tie.Need-returns-3
+returns-3 c = search needs
+
 pub scale-spec : {M : Type 1} → statement M
 scale-spec =
     tie.close
@@ -60,10 +66,12 @@ scale-spec =
     enum-known-started
     say-refusal-requires
     enum-known-started-2
+    open-requires
     slice-aggregate-run-job
     slice-aggregate-run-job-2
     slice-aggregate-run-job-3
     run-job-requires
     close-requires
     returns
-    returns-2)
+    returns-2
+    returns-3)

@@ -1,0 +1,6 @@
+pub mod Lines
+pub mod Parts
+pub mod Standing
+pub mod Verdicts
+pub mod Going
+pub mod Longer

@@ -1,0 +1,148 @@
+// The header of a PAM picture: read from standard input byte by byte, so that no byte of a pixel is read with it, and written to standard output.
+use crate::say;
+use crate::say_refusal;
+use crate::write_out;
+use libc::STDIN_FILENO;
+use pam_header::PamHeader;
+use pam_header::pam_header;
+use pam_heading::PamLength;
+use pam_heading::pam_header_length;
+use pam_heading::pam_write_header;
+use pam_parts::head_of;
+use pam_text::same;
+use pixels::Checked;
+use pixels::Dimensions;
+use pixels::Refusal;
+ghost use Prim.Native.Nat.{_<_};
+ghost use lib.ListN.{length};
+
+// A beginning of a header; the size that a whole one says; or stopped by what was said.
+pub enum Head {
+    More,
+    Size(Dimensions),
+    Stopped,
+}
+
+// ---- what is said
+
+// Whether the first line is P7, or, cut off, a beginning of that.
+fn opens(text: &[u8]) -> bool {
+    same(head_of(text, 3), head_of(b"P7\n", text.len()))
+}
+
+// `line`, where the first line is P7.
+fn say_of_pam(text: &[u8], line: &[u8]) {
+    if opens(text) {
+        say(line);
+        return;
+    }
+    say(
+        b"preview: the input is not a PAM picture: its first line is not P7 (pngtopam -alphapam makes one of a PNG; --raw takes rows without a header)\n",
+    );
+}
+
+// Where the input ends.
+fn say_cut(text: &[u8]) {
+    if text.len() == 0 {
+        say(b"preview: the input is empty: there is no PAM picture\n");
+        return;
+    }
+    say_of_pam(text, b"preview: the input ends inside the PAM header\n");
+}
+
+fn say_refused(text: &[u8], why: Refusal) {
+    match why {
+        Refusal::PamMalformed => say_of_pam(
+            text,
+            b"preview: the PAM header is outside the form: a line is wrong, unknown, missing or given twice\n",
+        ),
+        Refusal::PamUnsupported => say(
+            b"preview: the PAM picture is of another kind: only DEPTH 4, MAXVAL 255, TUPLTYPE RGB_ALPHA is taken, as pngtopam -alphapam writes it of a colour PNG (16 bits: pamdepth 255)\n",
+        ),
+        _ => say_refusal(why),
+    }
+}
+
+// ---- reading
+
+// What the bytes so far say.
+fn judge(text: &[u8]) -> Head {
+    let said = pam_header(text);
+    match said {
+        PamHeader::Picture { size, start: _ } => Head::Size(size),
+        PamHeader::Refused(why) => {
+            say_refused(text, why);
+            Head::Stopped
+        }
+        PamHeader::Unfinished => Head::More,
+    }
+}
+
+// Reads the byte at place n; at the end of a line asks what the header says.
+fn read_byte(text: &mut [u8], n: usize) -> Head
+    requires { ⌜ n < length (now text) ⌝ }
+{
+    let mut byte = [0u8; 1];
+    let got = io::read_full(STDIN_FILENO, &mut byte);
+    if got == 0 {
+        say_cut(head_of(text, n));
+        return Head::Stopped;
+    }
+    text[n] = byte[0];
+    if byte[0] != 10 {
+        return Head::More;
+    }
+    judge(head_of(text, n + 1))
+}
+
+fn is_more(head: Head) -> bool {
+    match head {
+        Head::More => true,
+        _ => false,
+    }
+}
+
+// Reads a header of at most 4,096 bytes.
+pub(crate) fn read_header() -> Head {
+    let mut text = [0u8; 4096];
+    let mut n = 0usize;
+    while n < 4096 {
+        let head = read_byte(&mut text, n);
+        if !is_more(head) {
+            return head;
+        }
+        n += 1;
+    }
+    say_of_pam(
+        &text,
+        b"preview: the PAM header is longer than the 4096 bytes that are read\n",
+    );
+    Head::Stopped
+}
+
+// ---- writing
+
+// Fills the buffer, which has the header's length, and writes it.
+fn put_header(size: Dimensions, out: &mut [u8]) -> bool {
+    let checked = pam_write_header(size, out);
+    match checked {
+        Checked::Refused(why) => {
+            say_refusal(why);
+            false
+        }
+        Checked::Fit => write_out(out),
+    }
+}
+
+// Writes the header of a picture of this size, at most 73 bytes; false where something stopped it.
+pub(crate) fn write_header(size: Dimensions) -> bool {
+    let mut text = [0u8; 73];
+    let length = pam_header_length(size);
+    match length {
+        PamLength::Refused(why) => {
+            say_refusal(why);
+            false
+        }
+        PamLength::Bytes(n) => put_header(size, &mut text[..n]),
+    }
+}
