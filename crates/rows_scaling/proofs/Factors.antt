@@ -8,7 +8,7 @@ use native.Mathlib.Nat.{mul-le-mul-left, mul-le-mul-right, mul-zero, zero-div, l
 use native.Mathlib.Numerals.{add-one}
 use lib.Dec.{eqb, ltb}
 use lib.ListN.{getD, drop}
-use borrow.Author.Tests.{le-leb, lt-leb, eq-eqb, ne-eqb, ltb-true}
+use borrow.Author.Tests.{le-leb, lt-leb, eq-eqb, ne-eqb, eqb-true, ltb-true}
 use Rattle.arithmetic.specs.Word.{wrapSub, wrapMul}
 use Rattle.arithmetic.specs.FixedPoint.{MULT, FLOOR, FRAC}
 use Rattle.arithmetic.specs.Table.{tabulate}
@@ -88,18 +88,18 @@ factor-half sp is t =
     rw (is, ne-eqb sp 1 (λ e. omega arith), frac-exact 1 sp (omega arith)) (div-bound sp (omega arith) (omega arith))
 
 -- 2^32 - 1 gives the word itself up to 2^31, and beyond it a number that is cut as the word is
-one-less : {j : ℕ} → j < 2 ^ 32 → clamp (MULT j 0xffff_ffff) ≡ clamp j
-unfolding MULT
+one-less : {j : ℕ} → j < 2 ^ 32 → clamp (MULT j (factorUp 1)) ≡ clamp j
+unfolding MULT factorUp
 one-less h = omega arith
 
 -- a product with the factor is the byte, of any word
 factor-byte : (sp : ℕ) {j : ℕ} → j < 2 ^ 32 → clamp (MULT j (factorUp sp)) ≡ byteUp sp j
 unfolding factorUp byteUp
-factor-byte sp {j} word = by (eqb sp 1)
+factor-byte sp {j} word = by (eqb sp 1) refl
   where
-    by : (one : Bool) → clamp (MULT j (cond one 0xffff_ffff (FRAC 1 sp))) ≡ clamp (cond one j (MULT j (FRAC 1 sp)))
-    by true = one-less word
-    by false = refl
+    by : (one : Bool) → eqb sp 1 ≡ one → clamp (MULT j (factorUp sp)) ≡ byteUp sp j
+    by true e = rw (eqb-true sp 1 e) (one-less word)
+    by false e = simp e
 
 -- ---- g ≤ h: what the loops write is what SCOPE says
 module _ (s : Scale) (u y : ℕ) (work : List ℕ) (down : s .g ≤ s .h) where
