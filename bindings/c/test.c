@@ -112,7 +112,7 @@ static void trials(void) {
     trial(2, 1, 3, 1, (const uint8_t[]){10, 21}, (const uint8_t[]){10, 255, 16, 255, 21, 255});
     trial(3, 1, 2, 1, (const uint8_t[]){10, 21, 30}, (const uint8_t[]){14, 255, 27, 255});
     trial(1, 6, 1, 5, (const uint8_t[]){255, 255, 255, 255, 255, 255}, (const uint8_t[]){255, 255, 255, 255, 255, 255, 255, 255, 255, 254});
-    trial(1, 1, 1, 2, (const uint8_t[]){77}, (const uint8_t[]){0, 0, 0, 0});
+    trial(1, 1, 1, 2, (const uint8_t[]){77}, (const uint8_t[]){77, 255, 77, 255});
     trial(1, 1, 2, 1, (const uint8_t[]){77}, (const uint8_t[]){77, 255, 77, 255});
 
     /* colour 200 with alpha 128 is matted to 100 and restored to 199: equal sizes are no copy */
@@ -121,6 +121,38 @@ static void trials(void) {
     in[3] = 128;
     EXPECT(jonquilsaw_resize(1, 1, JONQUILSAW_RGBA8, 1, 1, in, 4, out, 4, work, 8, &flag, 1) == 0);
     EXPECT(out[0] == 199 && out[1] == 199 && out[2] == 199 && out[3] == 128 && flag == 1);
+}
+
+/* A divider, one column made taller: it does not vanish, and opaque it stays opaque. */
+static void dividers(void) {
+    trial(1, 1, 2, 3, (const uint8_t[]){9}, (const uint8_t[]){9, 255, 9, 255, 9, 255, 9, 255, 9, 255, 9, 255});
+    /* 10 over 21: row 1 of 3 is half of each, 15.5, which is rounded up; of 4 rows, 13.7 and 17.3 */
+    trial(1, 2, 1, 3, (const uint8_t[]){10, 21}, (const uint8_t[]){10, 255, 16, 255, 21, 255});
+    trial(1, 2, 1, 4, (const uint8_t[]){10, 21}, (const uint8_t[]){10, 255, 14, 255, 17, 255, 21, 255});
+
+    /* colour 200 with alpha 128, matted to 100 and restored to 199; then two that differ in alpha alone, 128 and 0: half way it is 64, and the colour 199 */
+    uint8_t *in = bytes_of(8, 200), *out = bytes_of(12, 0);
+    uint32_t *work = words_of(8, 0), flag = 7;
+    in[3] = 128;
+    in[7] = 0;
+    EXPECT(jonquilsaw_resize(1, 1, JONQUILSAW_RGBA8, 1, 2, in, 4, out, 8, work, 8, &flag, 1) == 0);
+    EXPECT(memcmp(out, (const uint8_t[]){199, 199, 199, 128, 199, 199, 199, 128}, 8) == 0 && flag == 1);
+    EXPECT(jonquilsaw_resize(1, 2, JONQUILSAW_RGBA8, 1, 3, in, 8, out, 12, work, 8, &flag, 1) == 0);
+    EXPECT(memcmp(out, (const uint8_t[]){199, 199, 199, 128, 199, 199, 199, 64, 0, 0, 0, 0}, 12) == 0 && flag == 1);
+
+    /* the largest height: from the first pixel to the last, nowhere more than half a level off the exact mean */
+    enum { HEIGHT = 16384, STEPS = HEIGHT - 1 };
+    uint8_t *ends = bytes_of(8, 255), *tall = bytes_of((size_t)4 * HEIGHT, 0);
+    ends[0] = 10;
+    ends[4] = 21;
+    EXPECT(jonquilsaw_resize(1, 2, JONQUILSAW_RGBA8, 1, HEIGHT, ends, 8, tall, (size_t)4 * HEIGHT, work, 8, &flag, 1) == 0);
+    EXPECT(flag == 0 && tall[0] == 10 && tall[4 * STEPS] == 21);
+    int off = 0;
+    for (int y = 0; y < HEIGHT; y++) {
+        const int far = tall[4 * y] * STEPS - (10 * (STEPS - y) + 21 * y);
+        off += 2 * far > STEPS || 2 * far < -STEPS || tall[4 * y + 1] != 255 || tall[4 * y + 3] != 255;
+    }
+    EXPECT(off == 0);
 }
 
 /* White strips of 16,384 by 1,028 and 1,029 to one pixel: the last one's sums wrap. */
@@ -392,7 +424,8 @@ static void row_out(uint32_t *first, uint32_t *second, uint64_t y, uint64_t u, u
             first[j] = q >> 32 ? 0 : f;
         } else {
             const uint64_t b = frac(d, g - 1), newer = u % 2 ? second[j] : first[j], older = u % 2 ? first[j] : second[j];
-            byte = mult(d == 0 ? newer : ((((uint64_t)1 << 32) - b) * newer + b * older + ((uint64_t)1 << 31)) >> 32, frac(1, span));
+            const uint64_t blend = d == 0 ? newer : ((((uint64_t)1 << 32) - b) * newer + b * older + ((uint64_t)1 << 31)) >> 32;
+            byte = span == 1 ? blend : mult(blend, frac(1, span));
         }
         out[j * step] = (uint8_t)(byte > 255 ? 255 : byte);
     }
@@ -913,6 +946,7 @@ int main(void) {
     starts();
     offers_and_takes();
     trials();
+    dividers();
     schedule(6, 4, (const uint32_t[]){0, 0, 1, 2, 2, 3, 4});
     schedule(3, 5, (const uint32_t[]){0, 1, 3, 5});
     strips();
