@@ -1,6 +1,7 @@
 /* Jonquilsaw: a scaler of pictures and planes that takes source rows as they arrive and hands out
  * preview rows as they become ready. It allocates nothing: every buffer is lent by the caller. The
- * bytes are those of webpkit's rescaler; docs/DIFFERENCES.md says where libwebp's are others.
+ * bytes are those of webpkit's rescaler, except that a crop one pixel wide which is made taller does
+ * not become 0; docs/DIFFERENCES.md says so, and where libwebp's bytes are others.
  *
  * Every function returns 0 where the call was accepted and else a number that says why not: see
  * jonquilsaw_number. A refused call leaves every buffer as it was.
@@ -26,9 +27,9 @@ extern "C" {
 #endif
 
 #define JONQUILSAW_VERSION_MAJOR 0
-#define JONQUILSAW_VERSION_MINOR 4
+#define JONQUILSAW_VERSION_MINOR 5
 #define JONQUILSAW_VERSION_PATCH 0
-#define JONQUILSAW_VERSION "0.4.0"
+#define JONQUILSAW_VERSION "0.5.0"
 
 /* The largest side of a picture or a plane. */
 #define JONQUILSAW_MAX_SIDE 16384u

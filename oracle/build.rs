@@ -50,6 +50,10 @@ pub mod open {
             self.0.export_row();
             self.0.dst_y = t + 1;
         }
+        /// Request 4, where the height grows and span is 1: MULT with 2^32 − 1 leaves a j below 2^31 as it is.
+        pub fn count_the_factor_as_one(&mut self) {
+            self.0.fy_scale = u32::MAX;
+        }
         pub fn dst(&self) -> &[u8] {
             &self.0.dst
         }

@@ -112,7 +112,7 @@ static void trials(void) {
     trial(2, 1, 3, 1, (const uint8_t[]){10, 21}, (const uint8_t[]){10, 255, 16, 255, 21, 255});
     trial(3, 1, 2, 1, (const uint8_t[]){10, 21, 30}, (const uint8_t[]){14, 255, 27, 255});
     trial(1, 6, 1, 5, (const uint8_t[]){255, 255, 255, 255, 255, 255}, (const uint8_t[]){255, 255, 255, 255, 255, 255, 255, 255, 255, 254});
-    trial(1, 1, 1, 2, (const uint8_t[]){77}, (const uint8_t[]){0, 0, 0, 0});
+    trial(1, 1, 1, 2, (const uint8_t[]){77}, (const uint8_t[]){77, 255, 77, 255});
     trial(1, 1, 2, 1, (const uint8_t[]){77}, (const uint8_t[]){77, 255, 77, 255});
 
     /* colour 200 with alpha 128 is matted to 100 and restored to 199: equal sizes are no copy */
@@ -121,6 +121,51 @@ static void trials(void) {
     in[3] = 128;
     EXPECT(jonquilsaw_resize(1, 1, JONQUILSAW_RGBA8, 1, 1, in, 4, out, 4, work, 8, &flag, 1) == 0);
     EXPECT(out[0] == 199 && out[1] == 199 && out[2] == 199 && out[3] == 128 && flag == 1);
+}
+
+/* A divider, one column made taller: it does not vanish, and opaque it stays opaque. */
+static void dividers(void) {
+    trial(1, 1, 2, 3, (const uint8_t[]){9}, (const uint8_t[]){9, 255, 9, 255, 9, 255, 9, 255, 9, 255, 9, 255});
+    /* 10 over 21: row 1 of 3 is half of each, 15.5, which is rounded up; of 4 rows, 13.7 and 17.3 */
+    trial(1, 2, 1, 3, (const uint8_t[]){10, 21}, (const uint8_t[]){10, 255, 16, 255, 21, 255});
+    trial(1, 2, 1, 4, (const uint8_t[]){10, 21}, (const uint8_t[]){10, 255, 14, 255, 17, 255, 21, 255});
+
+    /* colour 200 with alpha 128, matted to 100 and restored to 199; then two that differ in alpha alone, 128 and 0: half way it is 64, and the colour 199 */
+    uint8_t *in = bytes_of(8, 200), *out = bytes_of(12, 0);
+    uint32_t *work = words_of(8, 0), flag = 7;
+    in[3] = 128;
+    in[7] = 0;
+    EXPECT(jonquilsaw_resize(1, 1, JONQUILSAW_RGBA8, 1, 2, in, 4, out, 8, work, 8, &flag, 1) == 0);
+    EXPECT(memcmp(out, (const uint8_t[]){199, 199, 199, 128, 199, 199, 199, 128}, 8) == 0 && flag == 1);
+    EXPECT(jonquilsaw_resize(1, 2, JONQUILSAW_RGBA8, 1, 3, in, 8, out, 12, work, 8, &flag, 1) == 0);
+    EXPECT(memcmp(out, (const uint8_t[]){199, 199, 199, 128, 199, 199, 199, 64, 0, 0, 0, 0}, 12) == 0 && flag == 1);
+
+    /* the largest height: from the first pixel to the last, nowhere more than half a level off the exact mean */
+    enum { HEIGHT = 16384, STEPS = HEIGHT - 1 };
+    uint8_t *ends = bytes_of(8, 255), *tall = bytes_of((size_t)4 * HEIGHT, 0);
+    ends[0] = 10;
+    ends[4] = 21;
+    EXPECT(jonquilsaw_resize(1, 2, JONQUILSAW_RGBA8, 1, HEIGHT, ends, 8, tall, (size_t)4 * HEIGHT, work, 8, &flag, 1) == 0);
+    EXPECT(flag == 0 && tall[0] == 10 && tall[4 * STEPS] == 21);
+    int off = 0;
+    for (int y = 0; y < HEIGHT; y++) {
+        const int far = tall[4 * y] * STEPS - (10 * (STEPS - y) + 21 * y);
+        off += 2 * far > STEPS || 2 * far < -STEPS || tall[4 * y + 1] != 255 || tall[4 * y + 3] != 255;
+    }
+    EXPECT(off == 0);
+
+    /* work values that the caller filled: j is cut at 255 */
+    const uint32_t filled[] = {0, 254, 255, 256, 511, 0x7fffffff, 0x80000000, 0x80000001, 0xffffffff};
+    uint32_t *record = words_of(14, 0), *two = words_of(2, 0), count = 0;
+    for (size_t i = 0; i < sizeof filled / sizeof *filled; i++) {
+        EXPECT(jonquilsaw_start_plane(1, 2, 1, 0, 0, 1, 2, 1, 3, two, 2, record, 14) == 0);
+        EXPECT(jonquilsaw_offer(record, 14, in, 1, two, 2, &count, 1) == 0);
+        two[1] = filled[i];
+        EXPECT(jonquilsaw_take(record, 14, out, 1, two, 2) == 0 && out[0] == (filled[i] < 255 ? filled[i] : 255));
+        EXPECT(jonquilsaw_offer(record, 14, in, 1, two, 2, &count, 1) == 0);
+        two[0] = two[1] = filled[i];
+        EXPECT(jonquilsaw_take(record, 14, out, 1, two, 2) == 0 && out[0] == (filled[i] < 255 ? filled[i] : 255));
+    }
 }
 
 /* White strips of 16,384 by 1,028 and 1,029 to one pixel: the last one's sums wrap. */
@@ -392,7 +437,8 @@ static void row_out(uint32_t *first, uint32_t *second, uint64_t y, uint64_t u, u
             first[j] = q >> 32 ? 0 : f;
         } else {
             const uint64_t b = frac(d, g - 1), newer = u % 2 ? second[j] : first[j], older = u % 2 ? first[j] : second[j];
-            byte = mult(d == 0 ? newer : ((((uint64_t)1 << 32) - b) * newer + b * older + ((uint64_t)1 << 31)) >> 32, frac(1, span));
+            const uint64_t blend = d == 0 ? newer : ((((uint64_t)1 << 32) - b) * newer + b * older + ((uint64_t)1 << 31)) >> 32;
+            byte = span == 1 ? blend : mult(blend, frac(1, span));
         }
         out[j * step] = (uint8_t)(byte > 255 ? 255 : byte);
     }
@@ -505,6 +551,49 @@ static void planes_of_lanes(void) {
     }
     const jonquilsaw_plane_plan six = {{1, 6}, 3, {0, 0, 1, 6}, {1, 5}};
     plane(&six, 1);
+}
+
+/* A colour matted by its alpha, or restored: mult_argb of docs/SCOPE.md for one lane. One column made taller brings no colour above its alpha. */
+static uint8_t by_alpha(uint64_t colour, uint64_t alpha, int restored) {
+    if (alpha == 0 || alpha == 255) return (uint8_t)(alpha == 0 ? 0 : colour);
+    const uint64_t k = restored ? ((uint64_t)255 << 24) / alpha : 65793 * alpha;
+    return (uint8_t)((colour * k + (1 << 23)) >> 24);
+}
+
+/* One column of a picture made taller: matted, scaled by the formulas, restored; whole and by rows. */
+static void column_of(uint32_t layout, uint32_t h, uint32_t m, uint32_t g) {
+    static const uint8_t alphas[8] = {0, 1, 2, 127, 128, 254, 255, 255};
+    const size_t n = (size_t)4 * h, o = (size_t)4 * m * g, v = JONQUILSAW_WORK_WORDS(m), place = layout == JONQUILSAW_ARGB8 ? 0 : 3;
+    const jonquilsaw_plane_plan plan = {{1, h}, 4, {0, 0, 1, h}, {m, g}};
+    uint8_t *pixels = bytes_of(n, 0), *matted = bytes_of(n, 0), *want = bytes_of(o, 0), *out = bytes_of(o, 1), *again = bytes_of(o, 2);
+    uint32_t *work = words_of(v, 3), *work_again = words_of(v, 4), wanted = 0, flag = 9, flag_again = 8;
+    for (size_t i = 0; i < n; i++) pixels[i] = i % 4 == place ? alphas[any_byte() % 8] : any_byte();
+    for (size_t i = 0; i < n; i++) matted[i] = i % 4 == place ? pixels[i] : by_alpha(pixels[i], pixels[i - i % 4 + place], 0);
+    by_formula(&plan, matted, want);
+    for (size_t i = 0; i < o; i++) {
+        if (i % 4 == place) wanted |= want[i] != 255;
+        else want[i] = by_alpha(want[i], want[i - i % 4 + place], 1);
+    }
+    EXPECT(jonquilsaw_resize(1, h, layout, m, g, pixels, n, out, o, work, v, &flag, 1) == 0);
+    by_job(1, h, layout, m, g, pixels, again, work_again, &flag_again);
+    EXPECT(memcmp(out, want, o) == 0 && memcmp(again, want, o) == 0);
+    EXPECT(flag == wanted && flag_again == wanted);
+    EXPECT(memcmp(work, work_again, 4 * v) == 0);
+    give_back(pixels, n);
+    give_back(matted, n);
+    give_back(want, o);
+    give_back(out, o);
+    give_back(again, o);
+    give_back(work, 4 * v);
+    give_back(work_again, 4 * v);
+}
+
+static void columns_of_pictures(void) {
+    for (uint32_t i = 0; i < 3 * 8 * 2 * 8; i++) {
+        const uint32_t h = 1 + i / 3 % 8;
+        column_of(i % 3, h, 1 + i / 24 % 2, h + 1 + i / 48);
+    }
+    for (uint32_t layout = 0; layout < 3; layout++) column_of(layout, 16383, 2, 16384);
 }
 
 /* A plane of four lanes is no picture: nothing is matted or restored. Where a picture's alpha is 255, in and out, both are the same. */
@@ -913,6 +1002,7 @@ int main(void) {
     starts();
     offers_and_takes();
     trials();
+    dividers();
     schedule(6, 4, (const uint32_t[]){0, 0, 1, 2, 2, 3, 4});
     schedule(3, 5, (const uint32_t[]){0, 1, 3, 5});
     strips();
@@ -921,6 +1011,7 @@ int main(void) {
     sizes();
     with_types();
     planes();
+    columns_of_pictures();
     pam();
     printf("c: %lu checks, %lu failed\n", checks, failures);
     return failures == 0 ? 0 : 1;

@@ -61,6 +61,10 @@ impl Sizes {
     pub fn need(&self) -> usize {
         self.row(self.tw).saturating_mul(2)
     }
+    /// Whether the height grows and span is 1: the corner that request 4 changed, where the original and libwebp do not judge (divider.rs).
+    pub fn divider(&self) -> bool {
+        self.th > self.ch && self.cw == 1 && (1..=2).contains(&self.tw)
+    }
     /// The source's bytes that a job's calls may be lent: two rows and some bytes more than it has.
     pub fn source_bytes(&self) -> usize {
         self.row(self.w) * (self.h as usize + 2) + 8

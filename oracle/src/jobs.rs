@@ -33,7 +33,7 @@ impl Random {
 }
 
 /// The sets of jobs, and how many of each a gate's run and a long run have; of pictures, then of planes.
-pub const SETS: [(&str, u64, u64); 23] = [
+pub const SETS: [(&str, u64, u64); 25] = [
     ("small", 12288, 80 * 12288),
     ("small-rows", 12288, 80 * 12288),
     ("edges", 3000, 60_000),
@@ -47,6 +47,7 @@ pub const SETS: [(&str, u64, u64); 23] = [
     ("beside", 8000, 400_000),
     ("wraps", 16, 300),
     ("strips", 6, 30),
+    ("dividers", DIVIDERS + 1200, DIVIDERS + 100_000),
     ("lanes-small", 4096, 80 * 4096),
     ("lanes-edges", 800, 8000),
     ("lanes-crops", 1000, 100_000),
@@ -57,6 +58,7 @@ pub const SETS: [(&str, u64, u64); 23] = [
     ("lanes-three", 800, 60_000),
     ("lanes-wraps", 10, 100),
     ("lanes-strips", 8, 40),
+    ("lanes-dividers", DIVIDERS + 1200, DIVIDERS + 100_000),
 ];
 
 /// The sets of planes.
@@ -86,6 +88,7 @@ pub fn make(set: &str, i: u64, r: &mut Random) -> Job {
         "beside" => beside(r),
         "wraps" => wraps(r),
         "strips" => strips(i, r),
+        "dividers" => dividers(i, r),
         "lanes-small" => rows(&small_plane(i), 0, r),
         "lanes-edges" => {
             let sizes = edges(r, false);
@@ -114,6 +117,7 @@ pub fn make(set: &str, i: u64, r: &mut Random) -> Job {
             let (sizes, px) = strip(i, r);
             rows_of(&plane_of(sizes, 1 + (i % 4) as u32), px, 0, r)
         }
+        "lanes-dividers" => plane_dividers(i, r),
         _ => panic!("no set {set}"),
     }
 }
@@ -516,6 +520,117 @@ fn strips(i: u64, r: &mut Random) -> Job {
     whole_with(&s, px, 1)
 }
 
+// ---- the corner that request 4 changed: the height grows and span is 1
+
+/// The jobs of `dividers` and `lanes-dividers` that are not made at random.
+const DIVIDERS: u64 = SMALL_DIVIDERS + 8 + 8;
+const SMALL_DIVIDERS: u64 = 1024;
+
+/// Every height from 1 to 8 to each of the eight above it, one and two wide; the rest of the number is what is left of i.
+fn small_divider(i: u64) -> (Sizes, u32) {
+    let h = 1 + (i & 7) as u32;
+    (full(0, 1, h, 1 + (i >> 6 & 1) as u32, h + 1 + (i >> 3 & 7) as u32), (i >> 7) as u32)
+}
+
+/// All pairs of an alpha and a colour, each in a row where d is 0 and in two that are blended: a column of a picture 8 wide, by rows.
+fn pairs(i: u64, r: &mut Random) -> (Sizes, Pixels) {
+    let s = Sizes { x: i as u32, cw: 1, ..full((i % 3) as u32, 8, 8192, r.within(1, 2), 16383) };
+    (s, Pixels { pattern: 8, seed: 0 })
+}
+
+/// The largest heights.
+fn tall_divider(i: u64) -> Sizes {
+    let h = [1, 2, 8192, 16383][(i / 2) as usize % 4];
+    full((i % 3) as u32, 1, h, 1 + (i % 2) as u32, 16384)
+}
+
+/// Somewhere in a picture, at any of its edges.
+fn any_divider(r: &mut Random) -> Sizes {
+    let mut s = full(r.below(3), r.within(1, 5), r.within(1, 9), r.within(1, 2), 1);
+    crop_at_edge(&mut s, r);
+    (s.x, s.cw) = (r.below(s.w), 1);
+    s.th = s.ch + if r.one_in(3) { r.within(1, 300) } else { r.within(1, 9) };
+    s
+}
+
+/// A whole column.
+fn column(r: &mut Random) -> Sizes {
+    let h = r.within(1, 60);
+    full(r.below(3), 1, h, r.within(1, 2), h + r.within(1, 200))
+}
+
+fn dividers(i: u64, r: &mut Random) -> Job {
+    const TALL: u64 = SMALL_DIVIDERS + 8;
+    match i {
+        0..SMALL_DIVIDERS => {
+            let (s, rest) = small_divider(i);
+            let s = Sizes { layout: rest % 3, ..s };
+            if rest < 3 { whole(&s, r) } else { rows(&s, 0, r) }
+        }
+        SMALL_DIVIDERS..TALL => {
+            let (s, px) = pairs(i - SMALL_DIVIDERS, r);
+            rows_of(&s, px, 0, r)
+        }
+        TALL..DIVIDERS => {
+            let s = tall_divider(i - TALL);
+            if i % 2 == 0 { whole(&s, r) } else { rows(&s, 0, r) }
+        }
+        _ => match r.below(6) {
+            0 => whole(&column(r), r),
+            1 => rows(&any_divider(r), 4, r),
+            2 => records(&any_divider(r), r),
+            3 => forged(&any_divider(r), r),
+            _ => rows(&any_divider(r), 0, r),
+        },
+    }
+}
+
+fn plane_dividers(i: u64, r: &mut Random) -> Job {
+    const TALL: u64 = SMALL_DIVIDERS + 8;
+    match i {
+        0..SMALL_DIVIDERS => {
+            let (s, rest) = small_divider(i);
+            rows(&plane_of(s, 1 + rest % 4), 0, r)
+        }
+        SMALL_DIVIDERS..TALL => {
+            let (s, px) = pairs(i - SMALL_DIVIDERS, r);
+            rows_of(&plane_of(s, 4), px, 0, r)
+        }
+        TALL..DIVIDERS => rows(&plane_of(tall_divider(i - TALL), 1 + (i % 4) as u32), 0, r),
+        _ => {
+            let s = any_divider(r);
+            let s = any_plane(s, r);
+            match r.below(6) {
+                0 => {
+                    // Luma, both chroma planes, or all three.
+                    let (w, h) = (r.within(1, 2), r.within(1, 9));
+                    let sides = [w, h, r.within(1, 4), h + r.within(1, 9)];
+                    let work = planes(sides[0], sides[1], sides[2], sides[3]).map(|s| s.need() + r.below(4) as usize);
+                    three_of(sides, work, r)
+                }
+                1 => rows(&s, 4, r),
+                2 => records(&s, r),
+                3 => forged(&s, r),
+                _ => rows(&s, 0, r),
+            }
+        }
+    }
+}
+
+/// Somewhere in a job the record becomes one of another kind or count that no rule forbids: the halves stand elsewhere then, and hold what no row
+/// brought, so that j may pass 255.
+fn forged(s: &Sizes, r: &mut Random) -> Job {
+    let work = 8 * s.tw as usize + r.below(4) as usize;
+    let mut list = calls_of(s, work, 0, r);
+    list.truncate(1 + r.below(list.len() as u32) as usize);
+    let other = if r.one_in(3) { Sizes { layout: r.below(3), kind: Sizes::PICTURE.kind, lanes: 4, ..*s } } else { any_plane(*s, r) };
+    list.extend([(KIND, other.kind), (LANES, other.lanes), (LAYOUT, other.layout), (FLAG, 0)].map(|(field, value)| Call::Set { field, value }));
+    list.push(Call::Take { out: other.row(s.tw), work });
+    list.push(Call::Offer { from: 0, len: other.row(s.w), work });
+    list.push(Call::Take { out: other.row(s.tw), work });
+    Job::Rows { sizes: *s, work, px: r.pixels(), calls: list }
+}
+
 // ---- planes
 
 const KINDS: [u32; 4] = [0, 1, 2, u32::MAX];
@@ -617,6 +732,12 @@ fn three(i: u64, r: &mut Random) -> Job {
         let choice = if i < 13 * 27 { lengths / 3u64.pow(k as u32) % 3 } else { 0 };
         *lent = [need + r.below(4) as usize, need.saturating_sub(1), 0][choice as usize];
     }
+    three_of(sides, work, r)
+}
+
+/// The calls of the three jobs mixed.
+fn three_of([w, h, tw, th]: [u32; 4], work: [usize; 3], r: &mut Random) -> Job {
+    let all = planes(w, h, tw, th);
     let px = r.pixels();
     let mut calls = Vec::new();
     if table::three((w, h, tw, th), &work) == 0 {

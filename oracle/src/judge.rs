@@ -2,7 +2,9 @@
 //!
 //! The original judges everywhere. libwebp's pictures must agree where no sum can wrap; elsewhere its differences are counted,
 //! and each must be the one that its 32-bit restore explains. Its rescaler in plain C is asked for planes, which nobody restores,
-//! and must agree everywhere.
+//! and must agree everywhere. Where the height grows and span is 1 the original and libwebp give 0 and the port does not: its bytes and
+//! flags there are left out of what the original judges, divider.rs judges them, and the run says how many.
+use crate::divider::Corner;
 use crate::job::Job;
 use crate::{jobs, original};
 use std::collections::BTreeMap;
@@ -183,15 +185,20 @@ pub fn run(sets: &[(&str, u64)], seed: u64, commands: Commands) -> bool {
     let sides = [(Side::Libwebp, commands.libwebp), (Side::Rescaler, commands.rescaler), (Side::Ours, commands.ours)];
     let drivers: Vec<_> = sides.iter().filter_map(|&(side, command)| Some(Driver::start(side, command?))).collect();
     let (mut total, mut own) = (0, 0);
+    let (mut left_out, mut corner) = (0, Corner::NONE);
     let begun = Instant::now();
     for &(set, count) in sets {
         let since = Instant::now();
         let mut random = jobs::Random(seed);
         random.0 = random.next() ^ set.bytes().fold(0, |h: u64, b| h.wrapping_mul(31).wrapping_add(u64::from(b)));
         let mut numbers = [0u64; NUMBERS];
+        let mut in_corner = 0;
         for i in 0..count {
             let job = jobs::make(set, i, &mut random);
-            let (line, (answer, libwebp)) = (job.to_string(), original::answer(&job));
+            let (line, told) = (job.to_string(), original::answer(&job));
+            let (answer, libwebp) = (told.line, told.libwebp);
+            in_corner += u64::from(told.corner.rows > 0);
+            corner.add(told.corner);
             if answer.starts_with('!') {
                 own += 1;
                 println!("original: {}\n  {answer}", cut(&line));
@@ -205,9 +212,21 @@ pub fn run(sets: &[(&str, u64)], seed: u64, commands: Commands) -> bool {
             }
         }
         total += count;
-        println!("{set:>13} {count:>8} jobs {:>6.1} s  calls by number 0 to {}: {numbers:?}", since.elapsed().as_secs_f64(), NUMBERS - 1);
+        left_out += in_corner;
+        let seconds = since.elapsed().as_secs_f64();
+        println!("{set:>14} {count:>8} jobs {seconds:>6.1} s  left out in {in_corner:>5}  calls by number 0 to {}: {numbers:?}", NUMBERS - 1);
     }
-    let mut agree = own == 0;
+    let (part, of) = corner.worst;
+    println!(
+        "left out, for the height grows and span is 1: the bytes and flags of {} rows of {left_out} jobs; the original and libwebp give 0 there",
+        corner.rows
+    );
+    println!(
+        "divider.rs judges these, at the worst {:.6} of a level off the exact mean; all else of these jobs is judged by the original",
+        part as f64 / of as f64
+    );
+    // Half a level is what rounding to the nearest may cost.
+    let mut agree = own == 0 && 2 * part <= of;
     for (side, c) in drivers.into_iter().map(Driver::finish) {
         let name = side.name();
         agree &= c.differ == 0 && (c.asked > 0 || c.sent == 0);
@@ -221,14 +240,10 @@ pub fn run(sets: &[(&str, u64)], seed: u64, commands: Commands) -> bool {
             println!("{name}: not asked: {}", c.left_out.iter().map(|(kind, n)| format!("{kind} {n}")).collect::<Vec<_>>().join(", "));
         }
         for (_, line, want, got) in &c.smallest {
-            println!("  job      {}\n  original {}\n  {name:8} {}", cut(line), cut(want), cut(got));
+            println!("  job      {}\n  expected {}\n  {name:8} {}", cut(line), cut(want), cut(got));
         }
     }
-    println!(
-        "{total} jobs judged by the original in {:.0} s, seed {seed}: {}",
-        begun.elapsed().as_secs_f64(),
-        if agree { "all agree" } else { "DIFFERENCES" }
-    );
+    println!("{total} jobs judged in {:.0} s, seed {seed}: {}", begun.elapsed().as_secs_f64(), if agree { "all agree" } else { "DIFFERENCES" });
     agree
 }
 

@@ -4,12 +4,14 @@
 //!   kind layout width height x y crop_width crop_height target_width target_height pattern seed number flag check
 //! Kind 0: crop then resize, by rows. Kind 1: scaled (flag and check are the answer's width and height). Kind 2: crop.
 //! Kind 3: apply_alpha_plane. `number` is SCOPE's; a refused call has flag and check 0. `check` is FNV-1a of 32 bits over
-//! the answer's bytes. Every answer is the original's.
+//! the answer's bytes. Every answer is the original's. None is of a height that grows with span 1, where the original gives 0 and the port
+//! does not (divider.rs): what would be one is 3 wide.
 use crate::image::{Dimensions, Image};
 use crate::job::{Pixels, Sizes};
 use crate::jobs::Random;
 use crate::original::{cropped, layout};
 use crate::picture::{FNV32, PATTERNS, bytes, fnv32, plane};
+use crate::table;
 use std::fmt::Write;
 
 /// number, flag, check
@@ -51,6 +53,7 @@ struct List {
 
 impl List {
     fn add(&mut self, kind: u32, s: Sizes, pattern: u32) {
+        let s = if kind == 0 && s.divider() && table::sizes(&s, true) == 0 { Sizes { tw: 3, ..s } } else { s };
         self.seeds += 1;
         let px = Pixels { pattern, seed: self.seeds };
         let (number, flag, check) = ask(kind, &s, px);
@@ -85,12 +88,12 @@ pub fn make() -> String {
     // Boundaries: one column, one row, equal sizes, the largest sides.
     for (from, to) in [
         ((1, 1), (1, 1)),
-        ((1, 1), (1, 2)),
+        ((1, 1), (3, 2)),
         ((1, 1), (2, 1)),
-        ((1, 1), (2, 2)),
+        ((2, 1), (2, 2)),
         ((1, 6), (1, 5)),
         ((1, 256), (1, 255)),
-        ((1, 3), (1, 5)),
+        ((2, 3), (1, 5)),
         ((2, 1), (1, 1)),
         ((2, 2), (2, 2)),
         ((3, 58), (2, 52)),
@@ -105,9 +108,9 @@ pub fn make() -> String {
         ((16384, 2), (16383, 3)),
         ((1, 16384), (1, 1)),
         ((1, 16384), (1, 3)),
-        ((1, 16383), (2, 16384)),
+        ((1, 16383), (3, 16384)),
         ((2, 3), (16384, 1)),
-        ((1, 2), (1, 16384)),
+        ((2, 2), (1, 16384)),
     ] {
         for pattern in [0, 1, 7] {
             l.scale((from.0 + to.0 + pattern) % 3, from, to, pattern);

@@ -4,6 +4,7 @@
 //!   oracle jobs SET COUNT SEED            jobs on standard output
 //!   oracle judge gate|long|planes [long]|SET.. [--count N] [--seed N] [--libwebp COMMAND] [--rescaler COMMAND] [--ours COMMAND]
 //!   oracle list                           the fixed list
+mod divider;
 mod error;
 mod job;
 mod jobs;
@@ -24,7 +25,7 @@ fn answer_all(altered: Option<u64>) {
     for (line, i) in std::io::stdin().lock().lines().zip(1..) {
         let line = line.unwrap();
         let mut answer = match job::Job::parse(&line) {
-            Some(job) => original::answer(&job).0,
+            Some(job) => original::answer(&job).line,
             None => "! no job".into(),
         };
         if altered == Some(i) {

@@ -3,8 +3,11 @@
 //! Whole pictures are asked of the public functions. A job by rows is run by the original's own Rescaler, its state set
 //! from the record and the work values before each row, and each row taken is held against the public crop and resize; of a
 //! plane, which the original has no public function for, against its private rescale_plane.
+//! Where the height grows and span is 1 the original gives 0, which is seen to be so, and the bytes and flags are those of request 4: divider.rs's, to which
+//! the original's Rescaler with its factor counted as one must come, too. All else in such an answer is the original's.
 //! Numbers come from table.rs and are held against the original wherever it can be asked; a line that begins with `!`
 //! says that the original disagrees with itself or with the table, and the comparison fails.
+use crate::divider::{self, Corner};
 use crate::geometry::Rect;
 use crate::image::{Dimensions, Image, PixelLayout, argb_has_alpha, pack_pixels, unpack_pixels};
 use crate::job::{Call, FLAG, Job, K, PLANE, Pixels, Record, Sizes, T, planes};
@@ -114,8 +117,7 @@ pub fn with_c_restore(job: &Job) -> Option<String> {
     let whole = Sizes { tw: s.cw, th: s.ch, ..s };
     let part = cropped(&whole, source, false).ok()?.into_pixels();
     let out = restored(s.layout, &scaled_lanes(&s, &part).0, c_restore);
-    let flag = unpack_pixels(layout(s.layout), &out).iter().any(|p| p >> 24 != 255);
-    let mut line = format!("0 {} ", u8::from(flag));
+    let mut line = format!("0 {} ", u8::from(flag_of(s.layout, &out)));
     hex(&mut line, &out);
     Some(line)
 }
@@ -132,38 +134,50 @@ fn picture_of(job: &Job) -> Option<(Sizes, Pixels)> {
     (table::sizes(&s, true) == 0).then_some((s, px))
 }
 
-/// The answer's line, and what libwebp's must be: the line's first three words, or for a job by rows what the whole picture or plane gives.
-pub fn answer(job: &Job) -> (String, String) {
+/// The answer's line, what libwebp's must be (the original's first three words, or for a job by rows what the whole picture or plane gives), and which of
+/// the line is not the original's.
+pub struct Told {
+    pub line: String,
+    pub libwebp: String,
+    pub corner: Corner,
+}
+
+pub fn answer(job: &Job) -> Told {
     match job {
         Job::Rows { sizes, work, px, calls } => {
-            let rows = Rows::new(sizes, *work, px, table::start(sizes, *work));
-            let whole = rows.whole.clone();
-            (rows.run(calls).unwrap_or_else(|e| e), whole)
+            let mut rows = Rows::new(sizes, *work, px, table::start(sizes, *work));
+            let line = rows.run(calls).unwrap_or_else(|e| e);
+            Told { line, libwebp: rows.whole, corner: rows.corner }
         }
         Job::Three { w, h, tw, th, work, px, calls } => {
             let number = table::three((*w, *h, *tw, *th), work);
             // each plane has bytes of its own
             let seed = |i: u32| Pixels { seed: px.seed.wrapping_add(i), ..*px };
             let mut rows = (0..3).map(|i| Rows::new(&planes(*w, *h, *tw, *th)[i], work[i], &seed(i as u32), number));
-            let three = Three { rows: [rows.next().unwrap(), rows.next().unwrap(), rows.next().unwrap()] };
-            let whole = three.rows.iter().map(|r| r.whole.as_str()).collect::<Vec<_>>().join(" ");
-            (three.run(calls).unwrap_or_else(|e| e), whole)
+            let mut three = Three { rows: [rows.next().unwrap(), rows.next().unwrap(), rows.next().unwrap()] };
+            let line = three.run(calls).unwrap_or_else(|e| e);
+            let mut corner = Corner::NONE;
+            three.rows.iter().for_each(|r| corner.add(r.corner));
+            Told { line, libwebp: three.rows.map(|r| r.whole).join(" "), corner }
         }
-        _ => {
-            let line = whole_answer(job);
-            let end = line.match_indices(' ').nth(2).map_or(line.len(), |m| m.0);
-            let three = line[..end].to_owned();
-            (line, three)
+        Job::Resize { layout, w, h, tw, th, pixels, out, work, px } => {
+            let s = Sizes { layout: *layout, w: *w, h: *h, cw: *w, ch: *h, tw: *tw, th: *th, ..Sizes::PICTURE };
+            resize(&s, *pixels, *out, *work, px)
         }
+        _ => Told::of(whole_answer(job)),
+    }
+}
+
+impl Told {
+    /// The original's whole line.
+    fn of(line: String) -> Told {
+        let end = line.match_indices(' ').nth(2).map_or(line.len(), |m| m.0);
+        Told { libwebp: line[..end].to_owned(), line, corner: Corner::NONE }
     }
 }
 
 fn whole_answer(job: &Job) -> String {
     match job {
-        Job::Resize { layout, w, h, tw, th, pixels, out, work, px } => {
-            let s = Sizes { layout: *layout, w: *w, h: *h, cw: *w, ch: *h, tw: *tw, th: *th, ..Sizes::PICTURE };
-            resize(&s, *pixels, *out, *work, px)
-        }
         Job::Crop { layout, w, h, x, y, cw, ch, pixels, out, px } => {
             let s = Sizes { layout: *layout, w: *w, h: *h, x: *x, y: *y, cw: *cw, ch: *ch, ..Sizes::PICTURE };
             crop(&s, *pixels, *out, px)
@@ -196,7 +210,7 @@ fn whole_answer(job: &Job) -> String {
             Ok(d) => format!("0 {} {}", d.width(), d.height()),
             Err(e) => format!("{} 0 0", e as u32),
         },
-        Job::Rows { .. } | Job::Three { .. } => unreachable!(),
+        Job::Resize { .. } | Job::Rows { .. } | Job::Three { .. } => unreachable!(),
     }
 }
 
@@ -205,19 +219,53 @@ fn too_large(len: usize) -> bool {
     len > 1 << 28
 }
 
-fn resize(s: &Sizes, pixels: usize, out: usize, work: usize, px: &Pixels) -> String {
+/// The crop's own rows in the corner, by divider.rs: restored and packed, if it is a picture.
+fn divided(s: &Sizes, part: &[u8], corner: &mut Corner) -> Vec<u8> {
+    let out = divider::scaled(s, &lanes(s, part), corner);
+    if s.kind == PLANE { out } else { restored(s.layout, &out, rust_restore) }
+}
+
+/// Where the original's bytes in the corner are not all 0, that is said.
+fn not_zero(s: &Sizes, original: &[u8]) -> Option<String> {
+    (s.divider() && original.iter().any(|&b| b != 0)).then(|| "! the height grows, span is 1, and the original does not give 0".into())
+}
+
+fn flag_of(l: u32, packed: &[u8]) -> bool {
+    unpack_pixels(layout(l), packed).iter().any(|p| p >> 24 != 255)
+}
+
+fn resize(s: &Sizes, pixels: usize, out: usize, work: usize, px: &Pixels) -> Told {
+    match resized(s, pixels, out, work, px) {
+        Ok((whole, source)) if whole.number == 0 && s.divider() => {
+            let mut told = Told::of(whole.line());
+            told.corner.rows = u64::from(s.th);
+            let out = divided(s, &source, &mut told.corner);
+            told.line = Whole { flag: flag_of(s.layout, &out), out, ..whole }.line();
+            told
+        }
+        Ok((whole, _)) => Told::of(whole.line()),
+        Err(wrong) => Told::of(wrong),
+    }
+}
+
+/// The original's answer, and the source.
+fn resized(s: &Sizes, pixels: usize, out: usize, work: usize, px: &Pixels) -> Result<(Whole, Vec<u8>), String> {
     let number = table::resize(s, pixels, out, work);
     let mut whole = Whole { number, flag: false, out: Vec::new(), work: Some(fill_words(work)) };
+    let mut source = Vec::new();
     if number <= 3 && !too_large(pixels) {
-        let source = bytes(s.layout, px.pattern, px.seed, pixels);
+        source = bytes(s.layout, px.pattern, px.seed, pixels);
         let asked = cropped(s, source.clone(), true);
         match asked {
-            Err(n) if n != number => return format!("! the table says {number}, the original {n}"),
-            Ok(_) if number != 0 => return format!("! the table says {number}, the original accepts"),
+            Err(n) if n != number => return Err(format!("! the table says {number}, the original {n}")),
+            Ok(_) if number != 0 => return Err(format!("! the table says {number}, the original accepts")),
             Ok(image) => {
                 let (lanes, halves) = scaled_lanes(s, &source);
                 if restored(s.layout, &lanes, rust_restore) != image.as_bytes() {
-                    return "! the original's Rescaler and its resize differ".into();
+                    return Err("! the original's Rescaler and its resize differ".into());
+                }
+                if let Some(wrong) = not_zero(s, image.as_bytes()) {
+                    return Err(wrong);
                 }
                 whole.work.as_mut().unwrap()[..halves.len()].copy_from_slice(&halves);
                 whole.flag = image.has_alpha();
@@ -229,7 +277,7 @@ fn resize(s: &Sizes, pixels: usize, out: usize, work: usize, px: &Pixels) -> Str
     if number != 0 {
         whole.out = fill_bytes(out);
     }
-    whole.line()
+    Ok((whole, source))
 }
 
 fn crop(s: &Sizes, pixels: usize, out: usize, px: &Pixels) -> String {
@@ -282,7 +330,7 @@ struct Rows {
     started: u32,
     /// The picture or the plane, with two rows and some bytes more than the source has.
     source: Vec<u8>,
-    /// The original's crop and resize of it, and the record as the source's own rows made it, if they alone did.
+    /// The original's crop and resize of it, in the corner divider.rs's; and the record as the source's own rows made it, if they alone did.
     public: Vec<u8>,
     natural: Option<Record>,
     scaler: Option<(Sizes, Scaler)>,
@@ -290,6 +338,8 @@ struct Rows {
     whole: String,
     /// Where the original disagrees with itself or with the table.
     wrong: Option<String>,
+    /// The rows whose bytes are divider.rs's.
+    corner: Corner,
 }
 
 impl Rows {
@@ -304,6 +354,7 @@ impl Rows {
             scaler: None,
             whole: String::new(),
             wrong: None,
+            corner: Corner::NONE,
         };
         let sizes = table::sizes(s, true);
         if sizes != 0 {
@@ -311,6 +362,11 @@ impl Rows {
         } else if s.kind != PLANE || started == 0 {
             rows.source = bytes(s.layout, px.pattern, px.seed, s.source_bytes());
             rows.ask(s);
+            if s.divider() {
+                rows.wrong = rows.wrong.take().or(not_zero(s, &rows.public));
+                let part = window(s, &rows.source);
+                rows.public = divided(s, &part, &mut rows.corner);
+            }
         }
         rows
     }
@@ -365,7 +421,7 @@ impl Rows {
         Ok(format!(" {said} {} {:016x}", record_line(&self.record), fnv_words(&self.work)))
     }
 
-    fn run(mut self, calls: &[Call]) -> Answer {
+    fn run(&mut self, calls: &[Call]) -> Answer {
         let work = self.start()?;
         let mut line = format!("{} {work}", self.started);
         if self.started == 0 {
@@ -380,7 +436,11 @@ impl Rows {
     fn loaded(&mut self) -> &mut Scaler {
         let s = Sizes::of(&self.record);
         if self.scaler.as_ref().is_none_or(|c| c.0 != s) {
-            self.scaler = Some((s, Scaler::new(s.cw, s.ch, s.tw, s.th, s.lanes, 1)));
+            let mut scaler = Scaler::new(s.cw, s.ch, s.tw, s.th, s.lanes, 1);
+            if s.divider() {
+                scaler.count_the_factor_as_one();
+            }
+            self.scaler = Some((s, scaler));
         }
         let (u, t) = (table::used(&s, self.record[K]), self.record[T]);
         let scaler = &mut self.scaler.as_mut().unwrap().1;
@@ -455,12 +515,12 @@ impl Rows {
             let t = self.record[T] as usize;
             self.record[T] += 1;
             if s.kind != PLANE {
-                let flag = unpack_pixels(layout(s.layout), &row).iter().any(|p| p >> 24 != 255);
-                self.record[FLAG] |= u32::from(flag);
+                self.record[FLAG] |= u32::from(flag_of(s.layout, &row));
             }
+            self.corner.rows += u64::from(s.divider());
             self.natural = natural.then_some(self.record);
             if natural && self.public[t * row.len()..(t + 1) * row.len()] != row {
-                return Err("! the original's Rescaler and its resize differ".into());
+                return Err("! the original's Rescaler and its resize, in the corner divider.rs, differ".into());
             }
         }
         let mut said = format!("{number} ");
@@ -479,7 +539,7 @@ struct Three {
 }
 
 impl Three {
-    fn run(mut self, calls: &[Call]) -> Answer {
+    fn run(&mut self, calls: &[Call]) -> Answer {
         let number = self.rows[0].started;
         let mut line = number.to_string();
         for rows in &mut self.rows {

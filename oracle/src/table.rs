@@ -127,7 +127,7 @@ pub fn take(r: &Record, out: usize, work: usize) -> u32 {
     first(&[(out != s.row(s.tw), 4), (work < s.need(), 5), (made(&s, r[K]) == r[T], 9)])
 }
 
-/// "A row goes out" by its formulas: the lanes, and whether a value reaches 2^31. The original casts values to i32 before it cuts
+/// "A row goes out" by its formulas, with request 4: the lanes, and whether a value reaches 2^31. The original casts values to i32 before it cuts
 /// them at 255, so it takes such a one for negative; work values that rows made never bring one, a caller's own may.
 pub fn row_out(s: &Sizes, work: &[u32], t: u32, u: u32) -> (Vec<u8>, bool) {
     let half = s.row(s.tw);
@@ -149,7 +149,7 @@ pub fn row_out(s: &Sizes, work: &[u32], t: u32, u: u32) -> (Vec<u8>, bool) {
             let (newer, older) = if (u - 1) % 2 == 0 { (second, first) } else { (first, second) };
             let blend = u128::from((1 << 32) - b) * u128::from(newer) + u128::from(b) * u128::from(older);
             let j = if d == 0 { u64::from(newer) } else { ((blend + (1 << 31)) >> 32) as u64 };
-            mult(j, frac(1, span))
+            if s.divider() { j } else { mult(j, frac(1, span)) }
         }
     };
     let values: Vec<u64> = (0..half).map(lane).collect();

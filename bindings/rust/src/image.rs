@@ -305,7 +305,17 @@ impl Image {
         Ok(Self { dims, layout: self.layout, pixels, has_alpha })
     }
 
-    /// The picture scaled to `target`.
+    /// The picture scaled to `target`: byte for byte what webpkit makes of it, but for one case. A column one pixel wide that becomes one or two wide and
+    /// taller is 0 there; here a divider keeps its pixels, and what stands between two of them is blended:
+    ///
+    /// ```
+    /// use jonquilsaw::{Dimensions, Image, PixelLayout};
+    ///
+    /// let divider = Image::new(Dimensions::new(1, 2)?, PixelLayout::Rgba8, vec![10, 10, 10, 255, 21, 21, 21, 255])?;
+    /// let taller = divider.resize(Dimensions::new(1, 3)?);
+    /// assert_eq!(taller.as_bytes(), [10, 10, 10, 255, 16, 16, 16, 255, 21, 21, 21, 255]);
+    /// # Ok::<(), jonquilsaw::Error>(())
+    /// ```
     ///
     /// # Panics
     ///
@@ -466,7 +476,7 @@ mod tests {
         assert_eq!(greys(&grey(size(2, 1), &[10, 21]).resize(size(1, 1))), [16]);
         assert_eq!(greys(&grey(size(2, 1), &[10, 21]).resize(size(3, 1))), [10, 16, 21]);
         assert_eq!(greys(&grey(size(3, 1), &[10, 21, 30]).resize(size(2, 1))), [14, 27]);
-        assert_eq!(grey(size(1, 1), &[9]).resize(size(1, 2)).as_bytes(), [0; 8]);
+        assert_eq!(grey(size(1, 1), &[9]).resize(size(1, 2)).as_bytes(), [9, 9, 9, 255, 9, 9, 9, 255]);
         assert_eq!(grey(size(1, 1), &[9]).resize(size(2, 1)).as_bytes(), [9, 9, 9, 255, 9, 9, 9, 255]);
         let white = grey(size(1, 6), &[255; 6]).resize(size(1, 5));
         assert_eq!(white.as_bytes()[..16], [255; 16]);

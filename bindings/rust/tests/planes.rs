@@ -51,8 +51,32 @@ fn one_lane_is_the_colour_of_an_opaque_grey_picture() {
             assert_eq!([*byte; 3], pixel[..3], "{source:?} {crop:?} {target:?}");
             same += 1;
         }
-        // A column of one pixel that grows downwards is all 0, alpha too.
-        assert_eq!(same > rows.len() / 2, picture.as_bytes().iter().any(|&b| b != 0), "{source:?} {crop:?} {target:?}");
+        assert!(same > rows.len() / 2, "{source:?} {crop:?} {target:?}");
+    }
+}
+
+/// A divider, one column of a plane that grows downwards, does not vanish: its rows are the column's own and blends of two that follow each other, at most
+/// half a level off; and two columns are twice the one.
+#[test]
+fn a_column_made_taller_keeps_its_lanes() {
+    let heights = [(1, 2), (1, 7), (2, 3), (3, 16), (40, 41), (9, 16384)];
+    for (lanes, (height, taller)) in (1..=4).flat_map(|lanes| heights.map(|both| (lanes, both))) {
+        let (source, crop) = (size(5, height + 3), Rect::new(3, 2, 1, height));
+        let plane = bytes(source.plane_byte_len(lanes));
+        let at = |row: u32, lane: u32| i64::from(plane[(((row + 2) * 5 + 3) * lanes + lane) as usize]);
+        let one = by_job(source, lanes, crop, size(1, taller), &plane);
+        let steps = i64::from(taller - 1);
+        for (y, row) in (0..taller).zip(one.chunks(lanes as usize)) {
+            // Row y stands `part` steps of the target below the crop's row `above`.
+            let (above, part) = (y * (height - 1) / (taller - 1), i64::from(y * (height - 1) % (taller - 1)));
+            for (lane, &byte) in (0..lanes).zip(row) {
+                let below = if part == 0 { above } else { above + 1 };
+                let exact = at(above, lane) * (steps - part) + at(below, lane) * part;
+                assert!(2 * (i64::from(byte) * steps - exact).abs() <= steps, "lane {lane} of {lanes}, row {y} of {taller}, of {height}");
+            }
+        }
+        let two: Vec<_> = one.chunks(lanes as usize).flat_map(|pixel| [pixel, pixel].concat()).collect();
+        assert_eq!(by_job(source, lanes, crop, size(2, taller), &plane), two);
     }
 }
 

@@ -146,13 +146,13 @@ module _ (source : Dimensions) (layout : PixelLayout) (crop : Rect) (target : Di
     alpha-near =
         let e =
         taken-alpha (crop .width) (target .width) (crop .height) (target .height) i y (fits .crop-width) (fits .target-width .most)
-        (fits .crop-height) (fits .target-height .most) inside row (premise .shrinking) (readByte picture b) matted-picture in
+        (fits .crop-height) (fits .target-height .most) inside row premise (readByte picture b) matted-picture in
         rw (row-lane alphaLane (omega arith) ∙ e) (lane-near picture b y i inside fits row premise alphaLane)
 
     pub colour-near : byteAt picture b y i inside alphaLane ≡ 255 → (k : ℕ) → k < alphaLane → NearMean picture b y i inside k (byteAt picture b y i inside k)
     colour-near opaque k l =
         let e =
         taken-opaque (crop .width) (target .width) (crop .height) (target .height) i y (fits .crop-width) (fits .target-width .most)
-        (fits .crop-height) (fits .target-height .most) inside row (premise .shrinking) (readByte picture b) matted-picture
+        (fits .crop-height) (fits .target-height .most) inside row premise (readByte picture b) matted-picture
         (sym (row-lane alphaLane (omega arith)) ∙ opaque) k (omega arith) in
         rw (row-lane k (omega arith) ∙ e) (lane-near picture b y i inside fits row premise k)

@@ -13,14 +13,14 @@ use Rattle.pixels_layout.specs.Lanes.{restoredPixel, restoredPlace}
 use Rattle.pixels_alpha.specs.Alpha.{someClear, hasAlpha}
 use Rattle.rows_schedule.specs.Schedule.{made, needed, since}
 use Rattle.rows.specs.Column.{start, over, last, columnSum, carry, shrinkValue, growValue, value}
-use Rattle.rows.specs.Output.{share, ratio, byteDown, blend, byteUp}
+use Rattle.rows.specs.Output.{share, ratio, byteDown, mixed, blend, byteUp}
 use Rattle.rows.specs.Closed.{newest, shareBefore, firstHalf, scaledByte, scaled}
 use Rattle.job_claim.specs.Rows.{readByte, scaledLane, rowOf, rowsOf, resized, resizedFlag}
 use Rattle.job_claim.specs.Trials.{AllHold, trials, givenOf, saidOf, pixel, opaque}
 
 pub all-hold : AllHold
 unfolding trials givenOf saidOf pixel opaque readByte scaledLane rowOf rowsOf resized resizedFlag
-    newest shareBefore firstHalf scaledByte scaled share ratio byteDown blend byteUp start over last columnSum carry shrinkValue growValue value
+    newest shareBefore firstHalf scaledByte scaled share ratio byteDown mixed blend byteUp start over last columnSum carry shrinkValue growValue value
     made needed since someClear hasAlpha restoredPixel restoredPlace packedByte badSide badSize sizeNumber derivedSide scaledNumber
     laneOf matteFactor restoreFactor factorOf scaleColour orOnto pixelOf multArgb span growWeight tabulate sum MULT FLOOR FRAC ceil
 all-hold Rgba8 = refl

@@ -64,7 +64,7 @@ exactOf p r k j y =
 abbrev pub totalOf : Plan → ℕ
 totalOf p = total (p .crop .width) (p .target .width) (p .crop .height) (p .target .height)
 
--- SCOPE's bound on span and heights
+-- SCOPE's bound on span and heights, where the height does not grow
 abbrev pub Bounded : Plan → Type 0
 Bounded p = Premise (span (p .crop .width) (p .target .width)) (p .crop .height) (p .target .height)
 

@@ -1,12 +1,13 @@
 -- The starred trials of SCOPE, "Trials", as one table: what the definitions give beside what the document says. The definitions are those
 -- that the contracts of resize, mult_argb, scaled and rows_by cite. The table is there for every layout. proofs/Trials.antt proves all rows together,
--- proofs/AnyPixel.antt the two that speak of any pixel for every pixel. Assumes nothing.
+-- proofs/AnyPixel.antt the two that speak of an opaque pixel for every such pixel. Assumes nothing.
 use Prim.Native.Nat.{ℕ, _<_}
 use mathlib.Core.Bool.{Bool, true, false, cond}
 use mathlib.Core.List.{List, [], _∷_, _++_}
 use mathlib.Core.Path.{_≡_}
 use Rattle.arithmetic.specs.Table.{tabulate}
 use Rattle.arithmetic.specs.Matte.{multArgb}
+use Rattle.pixels.specs.declared.Dimensions.{Dimensions}
 use Rattle.pixels_layout.specs.declared.PixelLayout.{PixelLayout}
 use Rattle.pixels_layout.specs.declared.PixelLayout.the-variants.{Rgba8, Argb8, Bgra8}
 use Rattle.pixels.specs.Sizes.{sizeOf, scaledNumber, scaledSize}
@@ -66,8 +67,12 @@ trials l =
     (1 ∷ [])
     -- equal sizes under alpha are no copy ("Traps")
     ∷ trial (resized (sizeOf 1 1) l (sizeOf 1 1) (pixel l 128 200 200 200)) (pixel l 128 199 199 199)
-    -- "1 by 1 to 1 by 2: all 0"
-    ∷ trial (resized (sizeOf 1 1) l (sizeOf 1 2) (pixel l 255 10 20 30)) (pixel l 0 0 0 0 ++ pixel l 0 0 0 0)
+    -- "Opaque 1 by 1 to 1 by 2: the pixel twice"
+    ∷ trial (resized (sizeOf 1 1) l (sizeOf 1 2) (pixel l 255 10 20 30)) (pixel l 255 10 20 30 ++ pixel l 255 10 20 30)
+    -- "Colour 200, alpha 128 to 1 by 2: 199, 128 twice"
+    ∷ trial (resized (sizeOf 1 1) l (sizeOf 1 2) (pixel l 128 200 200 200)) (pixel l 128 199 199 199 ++ pixel l 128 199 199 199)
+    -- "1 by 2, opaque, lanes 10, 21, to 1 by 3: 10, 16, 21"
+    ∷ trial (resized (sizeOf 1 2) l (sizeOf 1 3) (opaque l (10 ∷ 21 ∷ []))) (opaque l (10 ∷ 16 ∷ 21 ∷ []))
     -- "Opaque 1 by 1 to 2 by 1: the pixel twice"
     ∷ trial (resized (sizeOf 1 1) l (sizeOf 2 1) (pixel l 255 10 20 30)) (pixel l 255 10 20 30 ++ pixel l 255 10 20 30)
     -- "Colour 200, alpha 128: matted 100, restored 199"
@@ -89,13 +94,7 @@ trials l =
 abbrev pub AllHold : Type 0
 AllHold = (l : PixelLayout) → givenOf (trials l) ≡ saidOf (trials l)
 
--- ---- the two that speak of any pixel, for every pixel
-
--- "1 by 1 to 1 by 2: all 0", whatever the bytes are
-abbrev pub AllZero : Type 0
-AllZero = (l : PixelLayout) (a r g b : ℕ) → resized (sizeOf 1 1) l (sizeOf 1 2) (pixel l a r g b) ≡ pixel l 0 0 0 0 ++ pixel l 0 0 0 0
-
--- "Opaque 1 by 1 to 2 by 1: the pixel twice", whatever the colours are
-abbrev pub PixelTwice : Type 0
-PixelTwice = (l : PixelLayout) (r g b : ℕ) → r < 256 → g < 256 → b < 256
-    → resized (sizeOf 1 1) l (sizeOf 2 1) (pixel l 255 r g b) ≡ pixel l 255 r g b ++ pixel l 255 r g b
+-- ---- "the pixel twice" in the target, whatever its layout and its colours are: proved of 1 by 2 and 2 by 1
+abbrev pub PixelTwice : Dimensions → Type 0
+PixelTwice target = (l : PixelLayout) (r g b : ℕ) → r < 256 → g < 256 → b < 256
+    → resized (sizeOf 1 1) l target (pixel l 255 r g b) ≡ pixel l 255 r g b ++ pixel l 255 r g b

@@ -28,6 +28,6 @@ distance n m h g p j y pos-n pos-h most-n most-m most-g in-m in-g bytes premise 
 
     by : (g ≤ h) ⊎ (h < g) → Near (scaled n m h g p j y) (exactSum n m h g p j y) (total n m h g)
     by (inl low) =
-        rw (span-shrink h g low) (distance-down h g y (λ c. value (p c) n m j) (λ c. exact (p c) n m j) (span n m) (slack n m) (omega arith) low in-g most-g (span-most n m most-n most-m) (slack-small n m pos-n) (premise .shrinking low) near range)
+        rw (span-shrink h g low) (distance-down h g y (λ c. value (p c) n m j) (λ c. exact (p c) n m j) (span n m) (slack n m) (omega arith) low in-g most-g (span-most n m most-n most-m) (slack-small n m pos-n) (premise low) near range)
     by (inr high) =
-        rw (span-grow h g high) (distance-up h g y (λ c. value (p c) n m j) (λ c. exact (p c) n m j) (span n m) (slack n m) pos-h high in-g (span-most n m most-n most-m) (slack-small n m pos-n) (premise .growing high) near range)
+        rw (span-grow h g high) (distance-up h g y (λ c. value (p c) n m j) (λ c. exact (p c) n m j) (span n m) (slack n m) pos-h high in-g (span-most n m most-n most-m) (slack-small n m pos-n) near range)

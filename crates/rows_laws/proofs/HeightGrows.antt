@@ -1,12 +1,14 @@
 -- A row goes out, the height grows (MATHEMATICS 3): the byte against the exact mean, for any values v c of the crop rows that are close to exact sums e c.
 -- Why: the two crop rows that are blended are the two that the exact mean weighs, and with the same weights; the rounding of the blend and of the byte
--- is at most a half each. Assumes nothing.
+-- is at most a half each. So for every span. Assumes nothing.
 use Prim.Native.Nat.{ℕ, suc, _+_, _*_, _-_, _^_, _≤_, _<_}
 use mathlib.Core.Path.{_≡_, refl, sym, _∙_, ap}
+use mathlib.Core.Bool.{Bool, true, false, cond}
 use mathlib.Core.Logic.{_⊎_, inl, inr}
 use native.Mathlib.Omega.{arith}
 use native.Mathlib.Nat.{mul-le-mul-left, mul-le-mul-right, lt-of-mul-lt-mul-right, eq-or-lt-of-le}
-use borrow.Author.Tests.{lt-leb}
+use lib.Dec.{eqb}
+use borrow.Author.Tests.{lt-leb, eqb-true, eqb-false}
 use Rattle.arithmetic.specs.FixedPoint.{MULT, FRAC}
 use Rattle.arithmetic.specs.Sum.{sum}
 use Rattle.arithmetic.specs.Weight.{growWeight, weight}
@@ -58,9 +60,8 @@ unfolding scaledByte
 scaled-up W h g v y high = simp (lt-leb g h high)
 
 -- all errors together, j the blended value, G the total of the weights, s the slack of a value: less than two levels off
-pub byte-near-up : (j G W s S T : ℕ) → 2 ≤ W → W ≤ 16384 → s < W → 0 < G → S ≤ 256 * W * G → Mixed (256 * W) G j S → Close (s * G) S T → Near (MULT j (FRAC 1 W)) T (W * G)
-byte-near-up j G W s S T two narrow slack pos most mixed close =
-    go (MULT j (FRAC 1 W)) (mean-high j W two) (round-low j (FRAC 1 W) 1 W (omega (arith, frac-low 1 W two)))
+pub byte-near-up : (j G W s S T : ℕ) → W ≤ 16384 → s < W → 0 < G → S ≤ 256 * W * G → Mixed (256 * W) G j S → Close (s * G) S T → Near (cond (eqb W 1) j (MULT j (FRAC 1 W))) T (W * G)
+byte-near-up j G W s S T narrow slack pos most mixed close = by (eqb W 1) refl
   where
     above' : 1024 * (j * G) ≤ 1024 * S + 513 * G
     above' = omega (arith, mixed .above, mul-le-mul-left G narrow)
@@ -83,7 +84,17 @@ byte-near-up j G W s S T two narrow slack pos most mixed close =
           below = omega (arith, mul-le-mul-right G c', below', close .below, mul-le-mul-right G slack);
         }
 
-module _ (h g y : ℕ) (v e : ℕ → ℕ) (W s : ℕ) (pos : 0 < h) (high : h < g) (within : y < g) (narrow : W ≤ 16384) (slack : s < W) (premise : 2 ≤ W) (near : (c : ℕ) → c < h → Close s (v c) (e c)) (bytes : (c : ℕ) → c < h → e c ≤ 255 * W) where
+    -- for span 1 the value has no slack, and j is the byte: the blend alone rounds
+    by : (one : Bool) → eqb W 1 ≡ one → Near (cond one j (MULT j (FRAC 1 W))) T (W * G)
+    by true e =
+        let all : W * G ≡ 1 * G = ap (λ (t : ℕ). t * G) (eqb-true W 1 e) in
+        let near : Near j T (1 * G) = omega (arith, all, above', below', close .above, close .below, mul-le-mul-right G slack) in
+        rw all near
+    by false e =
+        let two : 2 ≤ W = omega (arith, eqb-false W 1 e) in
+        go (MULT j (FRAC 1 W)) (mean-high j W two) (round-low j (FRAC 1 W) 1 W (omega (arith, frac-low 1 W two)))
+
+module _ (h g y : ℕ) (v e : ℕ → ℕ) (W s : ℕ) (pos : 0 < h) (high : h < g) (within : y < g) (narrow : W ≤ 16384) (slack : s < W) (near : (c : ℕ) → c < h → Close s (v c) (e c)) (bytes : (c : ℕ) → c < h → e c ≤ 255 * W) where
   abbrev S : ℕ
   S = sum (λ c. weight h g y c * v c) 0 h
 
@@ -124,4 +135,4 @@ module _ (h g y : ℕ) (v e : ℕ → ℕ) (W s : ℕ) (pos : 0 < h) (high : h <
   pub distance-up : Near (scaledByte W h g v y) (sum (λ c. weight h g y c * e c) 0 h) (W * (g - 1))
   unfolding byteUp
   distance-up =
-      rw (scaled-up W h g v y high) (near-clamp (MULT j (FRAC 1 W)) T (W * (g - 1)) most-T (byte-near-up j (g - 1) W s S T premise narrow slack (omega arith) most-S mixed close))
+      rw (scaled-up W h g v y high) (near-clamp _ T (W * (g - 1)) most-T (byte-near-up j (g - 1) W s S T narrow slack (omega arith) most-S mixed close))

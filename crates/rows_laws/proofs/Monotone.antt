@@ -21,7 +21,7 @@ use Rattle.rows_schedule.specs.Schedule.{needed, since}
 use Rattle.rows_schedule.proofs.Needed.{needed-le, needed-equal, since-rise}
 use Rattle.rows.specs.Column.{start, over, last, columnSum, carry, shrinkValue, growValue, value}
 use Rattle.rows.specs.Output.{clamp, restDown, share, ratio, byteDown, restUp, mixed, blend, byteUp}
-use Rattle.rows_laws.specs.Mean.{sumBound}
+use Rattle.rows_laws.specs.Mean.{sumBound, Premise}
 use Rattle.rows.specs.Closed.{newest, shareBefore, firstHalf, scaledByte, scaled}
 use Rattle.rows.proofs.Columns.{value-shrink, value-grow, over-small}
 use Rattle.rows.proofs.Outputs.{share-is}
@@ -181,10 +181,13 @@ blend-mono g (suc d) {x} {x'} {o} {o'} hx ho =
     rw (ne-eqb (suc d) 0 (λ e. omega arith))
     (omega (arith, mul-le-mul-left (2 ^ 32 - FRAC (suc d) (g - 1)) hx, mul-le-mul-left (FRAC (suc d) (g - 1)) ho))
 
--- for span 1 it is 0 throughout
 pub byteUp-mono : (sp : ℕ) {x x' : ℕ} → x ≤ x' → byteUp sp x ≤ byteUp sp x'
 unfolding byteUp
-byteUp-mono sp h = omega (arith, MULT-mono h (le-refl (FRAC 1 sp)))
+byteUp-mono sp {x} {x'} h = by (eqb sp 1)
+  where
+    by : (one : Bool) → clamp (cond one x (MULT x (FRAC 1 sp))) ≤ clamp (cond one x' (MULT x' (FRAC 1 sp)))
+    by true = omega arith
+    by false = omega (arith, MULT-mono h (le-refl (FRAC 1 sp)))
 
 pub byte-mono-up : (sp h g : ℕ) (v v' : ℕ → ℕ) (y : ℕ) → 0 < h → h < g → y < g → ((c : ℕ) → c < h → v c ≤ v' c) → scaledByte sp h g v y ≤ scaledByte sp h g v' y
 byte-mono-up sp h g v v' y some grows within le =
@@ -197,8 +200,8 @@ byte-mono-up sp h g v v' y some grows within le =
 
 -- ---- joined
 
--- lighter in, no darker out. The premise is the distance's where the height does not grow; where it grows there is none
-pub scaled-mono : (n m h g : ℕ) (p p' : ℕ → ℕ → ℕ) (j y : ℕ) → 0 < n → m ≤ 16384 → 0 < h → g ≤ 16384 → j < m → y < g → (g ≤ h → span n m * h ≤ sumBound * g)
+-- lighter in, no darker out. The premise is the distance's
+pub scaled-mono : (n m h g : ℕ) (p p' : ℕ → ℕ → ℕ) (j y : ℕ) → 0 < n → m ≤ 16384 → 0 < h → g ≤ 16384 → j < m → y < g → Premise (span n m) h g
     → ((c i : ℕ) → c < h → i < n → p c i ≤ p' c i) → ((c i : ℕ) → c < h → i < n → p' c i ≤ 255) → scaled n m h g p j y ≤ scaled n m h g p' j y
 unfolding scaled
 scaled-mono n m h g p p' j y wide small high low column row premise le bytes = by (le-or-lt g h)

@@ -11,7 +11,7 @@ use Rattle.arithmetic.specs.Weight.{span}
 use Rattle.arithmetic.specs.Matte.{laneOf, pixelOf, multArgb, scaleColour, matteFactor, restoreFactor}
 use Rattle.arithmetic.proofs.Mattes.{pixel-lane, lane-byte, lane-zero, matte-colour, matte-within, argb-opaque, argb-clear, restore-alpha, restore-colour, scaleColour-mono}
 use Rattle.rows.specs.Closed.{scaled}
-use Rattle.rows_laws.specs.Mean.{sumBound}
+use Rattle.rows_laws.specs.Mean.{Premise}
 use Rattle.rows_laws.proofs.Monotone.{scaled-mono, scaled-byte}
 
 -- ---- a pixel of four lanes, no colour above its alpha, restored
@@ -71,7 +71,7 @@ pub matte-mono : (argb argb' k : ℕ) → k < 3 → laneOf argb 3 ≡ laneOf arg
 matte-mono argb argb' k l same le =
     rw (matte-colour argb k l, matte-colour argb' k l, same) (scaleColour-mono (matteFactor (laneOf argb' 3)) le)
 
-module _ (n m h g j y : ℕ) (wide : 0 < n) (small : m ≤ 16384) (high : 0 < h) (low : g ≤ 16384) (column : j < m) (row : y < g) (premise : g ≤ h → span n m * h ≤ sumBound * g) where
+module _ (n m h g j y : ℕ) (wide : 0 < n) (small : m ≤ 16384) (high : 0 < h) (low : g ≤ 16384) (column : j < m) (row : y < g) (premise : Premise (span n m) h g) where
   module _ (p : ℕ → ℕ → ℕ → ℕ) (matted : Matted n h p) where
     -- no scaled colour is above its scaled alpha
     pub colour-under-alpha : (k : ℕ) → k < 3 → scaled n m h g (p k) j y ≤ scaled n m h g (p 3) j y

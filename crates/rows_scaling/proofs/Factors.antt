@@ -6,19 +6,19 @@ use mathlib.Core.List.{List, _++_}
 use native.Mathlib.Omega.{arith}
 use native.Mathlib.Nat.{mul-le-mul-left, mul-le-mul-right, mul-zero, zero-div, le-refl}
 use native.Mathlib.Numerals.{add-one}
-use lib.Dec.{eqb, ltb, lit<}
+use lib.Dec.{eqb, ltb}
 use lib.ListN.{getD, drop}
-use borrow.Author.Tests.{le-leb, lt-leb, eq-eqb, ne-eqb, ltb-true}
+use borrow.Author.Tests.{le-leb, lt-leb, eq-eqb, ne-eqb, eqb-true, ltb-true}
 use Rattle.arithmetic.specs.Word.{wrapSub, wrapMul}
 use Rattle.arithmetic.specs.FixedPoint.{MULT, FLOOR, FRAC}
 use Rattle.arithmetic.specs.Table.{tabulate}
 use Rattle.arithmetic.proofs.Tables.{tabulate-cong}
 use Rattle.arithmetic.proofs.Quotients.{div-bound}
-use Rattle.arithmetic.proofs.FixedPoints.{frac-exact, frac-zero}
+use Rattle.arithmetic.proofs.FixedPoints.{frac-exact, frac-word}
 use Rattle.rows.specs.Output.{clamp, restDown, share, ratio, byteDown, leftDown, restUp, mixed, blend, byteUp}
 use Rattle.rows.specs.WorkRows.{Scale, halfOf, byteOut, rowLeft}
 use Rattle.rows.proofs.Outputs.{share-is}
-use Rattle.rows_scaling.specs.Inner.Scaling.{RoomAsks, GrowAsks, shrinkLeft, shrinkByte, lowByte, growByte}
+use Rattle.rows_scaling.specs.Inner.Scaling.{RoomAsks, GrowAsks, shrinkLeft, shrinkByte, lowByte, factorUp, growByte}
 
 -- ---- two words weighed by 2^32 in all
 pub blend-most : (a b : ℕ) {x y : ℕ} → a + b ≡ 2 ^ 32 → x < 2 ^ 32 → y < 2 ^ 32 → a * x + b * y ≤ 2 ^ 32 * 0xffff_ffff
@@ -30,6 +30,10 @@ blend-most a b {x} {y} e hx hy =
 pub mixed-is : (a b x y : ℕ) → a + b ≡ 2 ^ 32 → (a * x + b * y + 2 ^ 31) / 2 ^ 32 ≡ mixed b x y
 unfolding mixed
 mixed-is a b x y e = ap (λ (t : ℕ). (t * x + b * y + 2 ^ 31) / 2 ^ 32) (omega arith)
+
+mixed-word : (b : ℕ) {x y : ℕ} → b < 2 ^ 32 → x < 2 ^ 32 → y < 2 ^ 32 → mixed b x y < 2 ^ 32
+unfolding mixed
+mixed-word b hb hx hy = omega (arith, blend-most (2 ^ 32 - b) b (omega arith) hx hy)
 
 -- none of the older row
 pub mixed-none : (x y : ℕ) → mixed 0 x y ≡ x
@@ -63,7 +67,7 @@ ratio-most sp h g s p l =
     let less : g * 2 ^ 32 / (sp * h) < 2 ^ 32 + 1 = div-bound (sp * h) (omega arith) (omega arith) in
     omega arith
 
--- and below 2^31 for a span and heights that are tested once a row; the factor of a height that grows is so for every span but 2
+-- and below 2^31 for a span and heights that are tested once a row
 pub ratio-half : (sp h g : ℕ) → 2 * g < sp * h → g * 2 ^ 32 / (sp * h) < 2 ^ 31
 ratio-half sp h g l = div-bound (sp * h) (omega arith) (omega arith)
 
@@ -76,13 +80,26 @@ pub ratio-below : (sp h g : ℕ) {q : ℕ} → q ≡ ratio sp h g → ltb (2 * g
 unfolding ratio
 ratio-below sp h g is t = rw is (ratio-half sp h g (ltb-true (2 * g) (sp * h) t))
 
-pub factor-half : (sp : ℕ) → (sp ≡ 2 → ⊥) → FRAC 1 sp < 2 ^ 31
-unfolding FRAC
-factor-half zero ne = omega (arith, frac-zero 1)
-factor-half (suc zero) ne = lit< tt
-factor-half (suc (suc n)) ne =
-    let more : 2 < suc (suc n) = omega arith in
-    rw (frac-exact 1 (suc (suc n)) (omega arith)) (div-bound (suc (suc n)) (omega arith) (omega arith))
+-- ---- the factor of a height that grows: below 2^31 for spans above 2
+pub factor-half : (sp : ℕ) {factor : ℕ} → factor ≡ factorUp sp → ltb 2 sp ≡ true → factor < 2 ^ 31
+unfolding factorUp
+factor-half sp is t =
+    let more : 2 < sp = ltb-true 2 sp t in
+    rw (is, ne-eqb sp 1 (λ e. omega arith), frac-exact 1 sp (omega arith)) (div-bound sp (omega arith) (omega arith))
+
+-- 2^32 - 1 gives the word itself up to 2^31, and beyond it a number that is cut as the word is
+one-less : {j : ℕ} → j < 2 ^ 32 → clamp (MULT j (factorUp 1)) ≡ clamp j
+unfolding MULT factorUp
+one-less h = omega arith
+
+-- a product with the factor is the byte, of any word
+factor-byte : (sp : ℕ) {j : ℕ} → j < 2 ^ 32 → clamp (MULT j (factorUp sp)) ≡ byteUp sp j
+unfolding factorUp byteUp
+factor-byte sp {j} word = by (eqb sp 1) refl
+  where
+    by : (one : Bool) → eqb sp 1 ≡ one → clamp (MULT j (factorUp sp)) ≡ byteUp sp j
+    by true e = rw (eqb-true sp 1 e) (one-less word)
+    by false e = simp e
 
 -- ---- g ≤ h: what the loops write is what SCOPE says
 module _ (s : Scale) (u y : ℕ) (work : List ℕ) (down : s .g ≤ s .h) where
@@ -151,15 +168,17 @@ module _ (s : Scale) (u y : ℕ) (work : List ℕ) (up : s .h < s .g) where
   unfolding rowLeft
   halves-stay = simp (lt-leb (s .g) (s .h) up)
 
-  module _ {b factor new old : ℕ} (b-is : b ≡ FRAC rest (s .g - 1)) (factor-is : factor ≡ FRAC 1 (s .span))
+  module _ {b factor new old : ℕ} (words : (i : ℕ) → getD work i 0 < 2 ^ 32) (b-is : b ≡ FRAC rest (s .g - 1)) (factor-is : factor ≡ factorUp (s .span))
       (new-is : new ≡ halfOf (s .w) (u - 1)) (old-is : old ≡ halfOf (s .w) u) where
     up-byte : (x : ℕ) → growByte b factor work new old x ≡ byteOut s u y work x
-    unfolding growByte byteOut byteUp
+    unfolding growByte byteOut
     up-byte x =
         let n : ℕ = getD work (halfOf (s .w) (u - 1) + x) 0 in
         let o : ℕ = getD work (halfOf (s .w) u + x) 0 in
-        let j-is : mixed b (getD work (new + x) 0) (getD work (old + x) 0) ≡ blend (s .g) rest n o = rw (new-is, old-is, b-is) (blend-is (s .g) rest n o) in
-        simp (lt-leb (s .g) (s .h) up) (ap₂ (λ (j f : ℕ). clamp (MULT j f)) j-is factor-is)
+        let j : ℕ = mixed b (getD work (new + x) 0) (getD work (old + x) 0) in
+        let j-is : j ≡ blend (s .g) rest n o = rw (new-is, old-is, b-is) (blend-is (s .g) rest n o) in
+        let word : j < 2 ^ 32 = mixed-word b (rw b-is (frac-word rest (s .g - 1))) (words (new + x)) (words (old + x)) in
+        simp (lt-leb (s .g) (s .h) up) (ap (λ (f : ℕ). clamp (MULT j f)) factor-is ∙ factor-byte (s .span) word ∙ ap (byteUp (s .span)) j-is)
 
     pub grow-out : {out : List ℕ} → out ≡ tabulate (growByte b factor work new old) (s .w) → out ≡ tabulate (byteOut s u y work) (s .w)
     grow-out e = e ∙ tabulate-cong (growByte b factor work new old) (byteOut s u y work) (s .w) (λ x l. up-byte x)

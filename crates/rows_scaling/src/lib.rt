@@ -21,7 +21,7 @@ ghost use Rattle.rows.specs.Output.{clamp, restDown, ratio, mixed};
 ghost use Rattle.rows.specs.WorkRows.{halfOf, byteOut, rowLeft};
 ghost use Rattle.rows_tests.specs.Tests.{valuesNumber};
 ghost use Rattle.rows_scaling.specs.Scaling.{scaleIn, valuesOut, valuesWork};
-ghost use Rattle.rows_scaling.specs.Inner.Scaling.{RowAsks, RoomAsks, GrowAsks, Halved, shrinkLeft, shrinkByte, lowByte, growByte};
+ghost use Rattle.rows_scaling.specs.Inner.Scaling.{RowAsks, RoomAsks, GrowAsks, Halved, shrinkLeft, shrinkByte, lowByte, factorUp, growByte};
 
 // v, at most 255. Where v is below 2^31 the two signed tests become one saturating pack of many values; `signed` is the same for a whole row, so the
 // loops are compiled once for each.
@@ -176,8 +176,19 @@ fn shrink_row(s: RowScale, used: u32, row: u32, out: &mut [u8], work: &mut [u32]
     shrink_lanes(work, w, step, q as u32, below_half(s), out);
 }
 
-// The height grows: the Rust's export_row_expand; no work value changes. The factor is 2^31 or more for span 2 alone, which is tested for the same
-// reason.
+// The factor from j to the byte. For span 1 it is exactly one, which no word holds; 2^32 - 1 serves: MULT of j and it is j up to 2^31, and beyond it j - 1,
+// which is cut at 255 as j is. So span 1 needs no loop of its own.
+fn factor_up(span: u32) -> u32
+    ensures { λ r. ⌜ r ≡ factorUp span ⌝ }
+{
+    if span == 1 {
+        return 4294967295;
+    }
+    frac(1, span)
+}
+
+// The height grows: the Rust's export_row_expand; no work value changes. The factor is below 2^31 for spans above 2 alone; the span is tested, for the
+// same reason.
 fn grow_row(s: RowScale, used: u32, row: u32, out: &mut [u8], work: &[u32])
     requires { ⌜ RowAsks (scaleIn s) used row ⌝ }
     requires { ⌜ s .h < s .g ⌝ }
@@ -186,11 +197,11 @@ fn grow_row(s: RowScale, used: u32, row: u32, out: &mut [u8], work: &[u32])
 {
     let d = ((used - 1) as u64 * (s.g - 1) as u64 - row as u64 * (s.h - 1) as u64) as u32;
     let b = frac(d, s.g - 1);
-    let factor = frac(1, s.span);
+    let factor = factor_up(s.span);
     let w = s.w;
     let new = half_of(w, used - 1);
     let old = half_of(w, used);
-    let signed = s.span != 2;
+    let signed = s.span > 2;
     if b == 0 {
         level_lanes(work, new, w, factor, signed, out);
         return;
@@ -200,7 +211,7 @@ fn grow_row(s: RowScale, used: u32, row: u32, out: &mut [u8], work: &[u32])
 
 // Makes output row `row` (SCOPE's Y) of a crop of which `used` rows came in: w values, whatever the lanes of its pixels, none of them restored yet.
 // The Rust: Rescaler::export_row. Rules out: f rounded to the nearest; a difference that saturates; the ratio 2^32 taken as a word; the halves exchanged; one
-// column mended.
+// column made taller that vanishes.
 pub fn scale_values(s: RowScale, used: u32, row: u32, out: &mut [u8], work: &mut [u32]) -> Checked
     ensures number { λ r. ⌜ checkedNumber r ≡ valuesNumber s used row (length (now (out .entry))) (length (now (work .entry))) ⌝ }
     ensures out { λ _. ⌜ now (out .exit) ≡ valuesOut s used row (now (out .entry)) (now (work .entry)) ⌝ }

@@ -1,5 +1,5 @@
-// Runs the trials of SCOPE that are not proved, the edges of fixed point, matte and restore, one job offered in three ways, and planes. The file `stdout`
-// holds what SCOPE says: numbers in hexadecimal; pixels too, byte after byte; a size as width and height.
+// Runs the trials of SCOPE that are not proved, the edges of fixed point, matte and restore, one job offered in three ways, dividers, and planes. The file
+// `stdout` holds what SCOPE says: numbers in hexadecimal; pixels too, byte after byte; a size as width and height.
 use job::Job;
 use job::Offered;
 use job::Taken;
@@ -16,6 +16,7 @@ use pixels::Sized;
 use pixels_layout::PixelLayout;
 ghost use Prim.Native.Nat.{_≤_};
 
+mod dividers;
 mod planes;
 mod turned_away;
 
@@ -27,6 +28,7 @@ fn main() {
     sizes();
     small_cuts();
     large_cuts();
+    dividers::trials();
     planes::trials();
     turned_away::trials();
 }
@@ -147,13 +149,14 @@ fn scale_in_cuts(target: Dimensions, rows: u32, ragged: u32, pixels: &[u8]) {
         height: 7,
     };
     let begun = begin(source, target, &mut work);
-    let done = turns(begun, rows, ragged, pixels, &mut work, &mut out);
+    let done = turns(begun, 64, rows, ragged, pixels, &mut work, &mut out);
     job_lines(done, &out);
 }
 
 // Each turn offers a cut and takes a row; a call that is turned away leaves all as it was. 64 turns are more than 7 rows in and 11 out need.
 fn turns(
     begun: Job,
+    times: u32,
     rows: u32,
     ragged: u32,
     pixels: &[u8],
@@ -162,7 +165,7 @@ fn turns(
 ) -> Job {
     let mut job = begun;
     let mut i = 0u32;
-    while i < 64 {
+    while i < times {
         let next = offer_cut(job, cut_of(rows, ragged, i), pixels, work);
         job = take_row(next, work, out);
         i += 1;

@@ -37,10 +37,14 @@ fn one_lane() {
     row(1, 1, 2, &[9]);
 }
 
-// "1 by 6 all 255, to 1 by 5": the last is 254; "1 by 1 to 1 by 2: all 0"
+// "1 by 6 all 255, to 1 by 5": the last is 254; made taller, a column has its own bytes, of any lanes
 fn one_column() {
     plane(1, size(1, 6), size(1, 5), &[255, 255, 255, 255, 255, 255]);
     plane(1, size(1, 1), size(1, 2), &[9]);
+    plane(2, size(1, 1), size(1, 2), &[9, 8]);
+    plane(3, size(1, 1), size(1, 2), &[9, 8, 7]);
+    plane(4, size(1, 1), size(1, 2), &[9, 8, 7, 6]);
+    plane(1, size(1, 2), size(1, 3), &[10, 21]);
 }
 
 // The trials of one lane, two at once.
@@ -61,7 +65,7 @@ fn four_lanes() {
     row(4, 2, 3, &[200, 100, 50, 1, 100, 50, 201, 0]);
 }
 
-fn size(width: u32, height: u32) -> Dimensions {
+pub(crate) fn size(width: u32, height: u32) -> Dimensions {
     Dimensions { width, height }
 }
 
@@ -87,7 +91,7 @@ fn window(
     let mut out = [1u8; 308];
     let started = start_plane(source, lanes, crop, target, &mut work);
     let fresh = begun(started, source, target);
-    let done = turns(fresh, 1, ragged, bytes, &mut work, &mut out);
+    let done = turns(fresh, 64, 1, ragged, bytes, &mut work, &mut out);
     job_lines(done, &out);
 }
 
@@ -156,6 +160,6 @@ fn run_all(started: StartedPlanes, luma: &mut [u32], cb: &mut [u32], cr: &mut [u
 
 fn run(fresh: Job, bytes: &[u8], work: &mut [u32]) {
     let mut out = [1u8; 10];
-    let done = turns(fresh, 1, 0, bytes, work, &mut out);
+    let done = turns(fresh, 64, 1, 0, bytes, work, &mut out);
     job_lines(done, &out);
 }

@@ -3,9 +3,8 @@ use Rattle.rows_scaling.proofs.Factors.{factor-half, grow-room, grow-ou
 use Rattle.rows_scaling.proofs.RestRange.{up-some, up-low, up-high}
 use Rattle.rows_scaling.specs.Scaling.{scaleIn}
 use Rattle.arithmetic.proofs.Products.{most}
-use Rattle.pixels.proofs.Truths.{not-true}
-use borrow.Author.Tests.{eqb-false}
-use Prim.Native.Nat.{_-_}
+use lib.ListN.{getD}
+use Prim.Native.Nat.{ℕ, _-_, _^_, _<_}
 use native.Mathlib.Omega.{arith}
 use borrow.Author.Needs.{needs}
 use Rattle.rows_scaling.proofs.grow_row.Statement.{statement}
@@ -47,8 +46,8 @@ sub-frac c = search needs
 frac-requires : tie.Need-frac-requires
 frac-requires c κs = search needs
 
-frac-requires-2 : tie.Need-frac-requires-2
-frac-requires-2 c κs = search needs
+factor-up-requires : tie.Need-factor-up-requires
+factor-up-requires c κs = search needs
 
 sub-half-of : tie.Need-sub-half-of
 sub-half-of c = let p = c .before .before .before .before .before .before .before .pre in omega (arith, up-some (p .0) (p .1 .0))
@@ -64,9 +63,9 @@ level-lanes-requires c κs =
     let b = c .before .before .before .before .before .before .before .before .before .before .before .before in
     let u = b .args .used in
     let new = c .before .before .before .before .half-of .ensures in
-    let factor = c .before .before .before .before .before .frac2 .ensures in (
+    let factor = c .before .before .before .before .before .factor-up .ensures in (
       grow-room (u - 1) (u - 1) (b .pre .1 .1) new new,
-      λ t. rw factor (factor-half (b .args .s .span) (eqb-false _ _ (not-true _ t))),
+      factor-half (b .args .s .span) factor,
     )
 
 same-length : tie.Need-same-length
@@ -74,14 +73,16 @@ same-length c = search needs
 
 returns : tie.Need-returns
 returns c =
-    let b = c .before .before .before .before .before .before .before .before .before .before .before .before .before .before .before in
+    let k = c .before .before .before .before .before .before .before .before .before .before .before .before .before in
+    let b = k .before .before in
     let a = b .args in
     let up = b .pre .1 .0 in
     let rest = c .before .before .before .before .before .before .before .before .before .frac .ensures in
-    let factor = c .before .before .before .before .before .before .before .before .frac2 .ensures in
+    let factor = c .before .before .before .before .before .before .before .before .factor-up .ensures in
     let new = c .before .before .before .before .before .before .before .half-of .ensures in
     let old = c .before .before .before .before .before .before .half-of2 .ensures in
-    level-out (scaleIn (a .s)) (a .used) (a .row) (a .work .now) up rest factor new old (c .before .before .before .before .if1 .taken) (c .before .before .level-lanes .ensures)
+    let words : (i : ℕ) → getD (a .work .now) i 0 < 2 ^ 32 = λ i. k .shared-slice-known .given i .fits in
+    level-out (scaleIn (a .s)) (a .used) (a .row) (a .work .now) up words rest factor new old (c .before .before .before .before .if1 .taken) (c .before .before .level-lanes .ensures)
 
 blend-lanes-requires : tie.Need-blend-lanes-requires
 blend-lanes-requires c κs =
@@ -89,9 +90,9 @@ blend-lanes-requires c κs =
     let u = b .args .used in
     let new = c .before .before .before .before .half-of .ensures in
     let old = c .before .before .before .half-of2 .ensures in
-    let factor = c .before .before .before .before .before .frac2 .ensures in (
+    let factor = c .before .before .before .before .before .factor-up .ensures in (
       grow-room (u - 1) u (b .pre .1 .1) new old,
-      (omega (arith, c .before .if1 .left), λ t. rw factor (factor-half (b .args .s .span) (eqb-false _ _ (not-true _ t)))),
+      (omega (arith, c .before .if1 .left), factor-half (b .args .s .span) factor),
     )
 
 same-length-2 : tie.Need-same-length-2
@@ -99,14 +100,16 @@ same-length-2 c = search needs
 
 returns-2 : tie.Need-returns-2
 returns-2 c =
-    let b = c .before .before .before .before .before .before .before .before .before .before .before .before .before .before .before in
+    let k = c .before .before .before .before .before .before .before .before .before .before .before .before .before in
+    let b = k .before .before in
     let a = b .args in
     let up = b .pre .1 .0 in
     let rest = c .before .before .before .before .before .before .before .before .before .frac .ensures in
-    let factor = c .before .before .before .before .before .before .before .before .frac2 .ensures in
+    let factor = c .before .before .before .before .before .before .before .before .factor-up .ensures in
     let new = c .before .before .before .before .before .before .before .half-of .ensures in
     let old = c .before .before .before .before .before .before .half-of2 .ensures in
-    grow-out (scaleIn (a .s)) (a .used) (a .row) (a .work .now) up rest factor new old (c .before .before .blend-lanes .ensures)
+    let words : (i : ℕ) → getD (a .work .now) i 0 < 2 ^ 32 = λ i. k .shared-slice-known .given i .fits in
+    grow-out (scaleIn (a .s)) (a .used) (a .row) (a .work .now) up words rest factor new old (c .before .before .blend-lanes .ensures)
 
 pub grow-row-spec : {M : Type 1} → statement M
 grow-row-spec =
@@ -124,7 +127,7 @@ grow-row-spec =
     cast-d-4
     sub-frac
     frac-requires
-    frac-requires-2
+    factor-up-requires
     sub-half-of
     half-of-requires
     half-of-requires-2

@@ -2,11 +2,12 @@
 -- factors of the row already found. The public promises are those of Scaling. Assumes nothing.
 use Prim.Native.Nat.{ℕ, _+_, _-_, _*_, _/_, _%_, _^_, _≤_, _<_}
 use mathlib.Core.Path.{_≡_}
-use mathlib.Core.Bool.{Bool, true}
+use mathlib.Core.Bool.{Bool, true, cond}
 use mathlib.Core.List.{List}
+use lib.Dec.{eqb}
 use lib.ListN.{length, getD}
 use Rattle.arithmetic.specs.Word.{wrapSub}
-use Rattle.arithmetic.specs.FixedPoint.{MULT, FLOOR}
+use Rattle.arithmetic.specs.FixedPoint.{MULT, FLOOR, FRAC}
 use Rattle.rows.specs.Output.{clamp, mixed}
 use Rattle.rows.specs.WorkRows.{Scale}
 use Rattle.rows_due.specs.Due.{due}
@@ -44,6 +45,10 @@ shrinkByte step q w work x = clamp (MULT (wrapSub (getD work x 0) (shrinkLeft st
 unfoldable pub lowByte : List ℕ → ℕ → ℕ
 lowByte work x = getD work x 0 % 256
 
--- MULT of the two mixed and the factor, FRAC(1, span)
+-- FRAC(1, span); for span 1 the word next to exactly one, 2^32 - 1
+unfoldable pub factorUp : ℕ → ℕ
+factorUp span = cond (eqb span 1) 0xffff_ffff (FRAC 1 span)
+
+-- MULT of the two mixed and that factor
 unfoldable pub growByte : ℕ → ℕ → List ℕ → ℕ → ℕ → ℕ → ℕ
 growByte b factor work new old x = clamp (MULT (mixed b (getD work (new + x) 0) (getD work (old + x) 0)) factor)

@@ -1,16 +1,17 @@
 -- `trials::turns` ends: the turns left are the measure. Assumes nothing.
 use Prim.Native.Nat.{_≤_, _-_}
 use mathlib.Core.Path.{_≡_}
+use native.Mathlib.Omega.{arith}
 use lib.ListN.{length}
 use borrow.Author.Needs.{needs}
 use Rattle.trials.proofs.turns.Statement.{statement}
 use Rattle.trials.proofs.turns.Tie as tie
 
 abbrev Inv-loop : tie.InvT-loop
-Inv-loop rows ragged pixels work₀ out₀ job₀ i₀ work out job i = (length work ≡ length work₀) × (length out ≡ length out₀) × (i ≤ 64)
+Inv-loop times rows ragged pixels work₀ out₀ job₀ i₀ work out job i = (length work ≡ length work₀) × (length out ≡ length out₀) × (i ≤ times)
 
 abbrev μ-loop : tie.MeasureT-loop
-μ-loop rows ragged pixels work₀ out₀ job₀ i₀ work out job i = 64 - i
+μ-loop times rows ragged pixels work₀ out₀ job₀ i₀ work out job i = times - i
 
 loop-holds : tie.Need-loop-holds Inv-loop μ-loop
 loop-holds c = search needs
@@ -25,7 +26,9 @@ take-row-requires : tie.Need-take-row-requires Inv-loop μ-loop
 take-row-requires c κs = search needs
 
 add-i : tie.Need-add-i Inv-loop μ-loop
-add-i c = search needs
+add-i c =
+    let l = c .before .before .before .before .before .before .before .before .before .before .before .before in
+    omega (arith, l .loop-test .taken, l .before .before .before .before .before .fits .times .fits)
 
 loop-less : tie.Need-loop-less Inv-loop μ-loop
 loop-less c = search needs
