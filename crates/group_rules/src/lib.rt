@@ -7,7 +7,7 @@ use pixels::Dimensions;
 use pixels::Rect;
 use pixels_layout::PixelLayout;
 ghost use mathlib.Core.Path.{_≡_};
-ghost use Rattle.group_rules.specs.Group.{spare, formed};
+ghost use Rattle.group_rules.specs.Group.{spare};
 
 // The most jobs of a group.
 pub const GROUP_LIMIT: usize = 8;
@@ -40,10 +40,4 @@ pub fn no_job() -> Job
         taken: 0,
         flag: false,
     }
-}
-
-fn first_plan(plans: [Plan; GROUP_LIMIT]) -> Plan
-    ensures { λ r. ⌜ r ≡ Rattle.group_rules.specs.Group.givenAt plans 0 ⌝ }
-{
-    plans[0]
 }
