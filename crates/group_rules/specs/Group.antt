@@ -105,7 +105,7 @@ alike p q =
 unfoldable pub differing : List Job → ℕ → Bool
 differing js n = eqb n 0 || some (λ i. not (alike (planAt js 0) (planAt js i))) n
 
--- "a ninth job", n being how many there are
+-- "A ninth job", n being how many there are
 abbrev pub tooMany : ℕ → Bool
 tooMany n = ltb groupLimit n
 

@@ -34,7 +34,7 @@ groupStartNumber plans count w = first (startCauses (freshJobs plans (looked cou
 abbrev pub badGroup : Group → Cause
 badGroup g = cause (not (groupLawful g)) InvalidRecord
 
--- "number 5 then compares the slice with the sum of all needs"
+-- "Number 5 then compares the slice with the sum of all needs"
 abbrev pub shortGroup : Group → ℕ → Cause
 shortGroup g w = fewWork w (total (g .jobs) (g .count))
 
