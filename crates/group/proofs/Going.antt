@@ -22,17 +22,18 @@ use Rattle.job.proofs.Views.{WholeRows, whole-of, offer-went, offer-goes, take-
 use Rattle.group_parts.specs.Parts.{offset, partAt, eachPart}
 use Rattle.group_parts.proofs.Cutting.{offset-next, part-long, each-same}
 use Rattle.group_rules.specs.declared.Group.{Group}
-use Rattle.group_rules.specs.Group.{jobAt, planAt, needs, total}
+use Rattle.group_rules.specs.Group.{jobAt, planAt, needs, total, groupLawful}
 use Rattle.group_rules.specs.Tests.{readyAt, someReady, groupOfferCauses, groupOfferNumber, groupTakeCauses, groupTakeNumber}
 use Rattle.group.specs.Calls.{mostRows, groupCount, fedRows}
-use Rattle.group.proofs.Members.{Member, Lawful, lawful-group, some-none}
+use Rattle.group.proofs.Members.{Member, LawfulGroup, lawful-group, lanes-here, some-none}
 use Rattle.group.proofs.Kept.{fed-length, fed-front, offer-length}
 use Rattle.group.proofs.Counted.{count-most, count-some, count-low}
 
 -- ---- offer
 
 pub record Goes (g : Group) (n w : ℕ) : Type 0 where
-  pub lawful : Lawful g
+  pub legal : groupLawful g ≡ true
+  pub lawful : LawfulGroup g
   pub whole : WholeRows (planAt (g .jobs) 0) n
   pub room : total (g .jobs) (g .count) ≤ w
   pub none-ready : someReady (g .jobs) (g .count) (jobAt (g .jobs) 0 .accepted) ≡ false
@@ -43,6 +44,7 @@ unfolding groupOfferNumber
 goes g n w e =
     let q = none-applies (groupOfferCauses g n w) e in
     record {
+      legal = not-false _ (q .0);
       lawful = lawful-group g (not-false _ (q .0));
       whole = whole-of (planAt (g .jobs) 0) n (q .1 .0);
       room = ltb-false _ _ (q .1 .1 .0);
@@ -62,7 +64,7 @@ module _ (g : Group) (rows : List ℕ) (w : ℕ) (o : Goes g (length rows) w) wh
   count = groupCount g (length rows)
 
   pub stride-pos : 0 < stride
-  stride-pos = let m = o .lawful .member 0 (o .lawful .some) in mul-pos (m .lane-most .some) (m .rules .sizes .source-width .some)
+  stride-pos = let m = o .lawful .member 0 (o .lawful .some) in mul-pos (lanes-here (jobAt js 0) (m .rules) .some) (m .rules .sizes .source-width .some)
 
   lent-is : length rows ≡ stride * lentRows (planAt js 0) (length rows)
   lent-is = omega (arith, div-add-mod (length rows) stride, o .whole .whole)
@@ -103,7 +105,7 @@ module _ (g : Group) (rows : List ℕ) (w : ℕ) (o : Goes g (length rows) w) wh
     member = o .lawful .member i l
 
     pub same-stride : rowBytes (lanesOf (planAt js i)) (planAt js i .source .width) ≡ stride
-    same-stride = ap₂ rowBytes (o .lawful .member i l .plans .lanes) (o .lawful .member i l .plans .width)
+    same-stride = ap₂ rowBytes (o .lawful .member i l .alike .lanes) (o .lawful .member i l .alike .width)
 
     long-here : length (fedRows g rows) ≡ rowBytes (lanesOf (planAt js i)) (planAt js i .source .width) * count
     long-here = fed-long ∙ ap (λ (x : ℕ). x * count) (sym same-stride)
@@ -128,7 +130,7 @@ module _ (g : Group) (rows : List ℕ) (w : ℕ) (o : Goes g (length rows) w) wh
         let z : jobAt js i .accepted + 0 ≡ jobAt js i .accepted = omega arith in
         let m = o .lawful .member i l in
         offer-goes (jobAt js i) (length (fedRows g rows)) (needs js i) (m .rules) alone-whole (omega arith)
-        (rw z at (none 0 count-pos)) (omega (arith, o .remain, m .accepted, m .plans .height))
+        (rw z at (none 0 count-pos)) (omega (arith, o .remain, m .accepted, m .alike .height))
 
     -- and all of them
     pub alone-count : job.count (jobAt js i) (length (fedRows g rows)) ≡ count
@@ -138,7 +140,7 @@ module _ (g : Group) (rows : List ℕ) (w : ℕ) (o : Goes g (length rows) w) wh
         let s : ℕ = rowBytes (lanesOf (planAt js i)) (planAt js i .source .width) in
         let z : j .accepted + 0 ≡ j .accepted = omega arith in
         let e : lentRows (j .plan) (length (fedRows g rows)) ≡ count = ap (λ (x : ℕ). x / s) long-here ∙ mul-div-cancel-left count wide in
-        let q : job.mostRows j (length (fedRows g rows)) ≡ count = rw e (omega (arith, in-source, m .accepted, m .plans .height)) in
+        let q : job.mostRows j (length (fedRows g rows)) ≡ count = rw e (omega (arith, in-source, m .accepted, m .alike .height)) in
         ap (λ (x : ℕ). job.counted (R (j .plan)) (j .accepted) (j .taken) x) q
         ∙ counted-is (R (j .plan)) (j .accepted) (j .taken) (rw z at (none 0 count-pos)) count count (omega arith) none (inl refl)
 
@@ -168,7 +170,7 @@ module _ (g : Group) (rows : List ℕ) (w : ℕ) (o : Goes g (length rows) w) wh
 -- ---- take, of job i
 
 pub record TakeGoes (g : Group) (i n w : ℕ) : Type 0 where
-  pub lawful : Lawful g
+  pub lawful : LawfulGroup g
   pub named : i < g .count
   pub exact : n ≡ rowBytes (lanesOf (planAt (g .jobs) i)) (planAt (g .jobs) i .target .width)
   pub room : total (g .jobs) (g .count) ≤ w

@@ -1,11 +1,12 @@
 -- The jobs of a group that meets the rules: each meets its own, and what it has in common with the first. Assumes nothing.
-use Prim.Native.Nat.{ℕ, zero, suc, _+_, _≤_, _<_}
+use Prim.Native.Nat.{ℕ, zero, suc, _+_, _*_, _≤_, _<_}
 use mathlib.Core.Path.{_≡_, refl, sym, _∙_}
 use mathlib.Core.List.{List}
 use mathlib.Core.Bool.{Bool, true, false, not, _||_, _&&_}
 use mathlib.Core.Logic.{⊎-elim}
 use native.Mathlib.Omega.{arith}
-use native.Mathlib.Nat.{eq-or-lt-of-le, le-of-suc-le-suc}
+use native.Mathlib.Nat.{eq-or-lt-of-le, le-of-suc-le-suc, mul-le-mul}
+use lib.ListN.{set}
 use lib.Dec.{eqb, ltb}
 use borrow.Author.Tests.{eqb-true, eqb-false, ltb-false}
 use Rattle.pixels.specs.Sizes.{LaneCount}
@@ -17,7 +18,7 @@ use Rattle.job_rules.proofs.KindRules.{lane-count}
 use Rattle.job.specs.declared.Job.{Job}
 use Rattle.job.specs.Record.{lawful, Rules}
 use Rattle.group_rules.specs.declared.Group.{Group}
-use Rattle.group_rules.specs.Group.{groupLimit, jobAt, planAt, every, some, sameLayout, sameKind, alike, differing, tooMany, groupLawful}
+use Rattle.group_rules.specs.Group.{groupLimit, jobAt, planAt, needs, eachJob, every, some, sameLayout, sameKind, alike, differing, tooMany, groupLawful}
 
 -- ---- all of them, one of them
 
@@ -31,13 +32,26 @@ every-one f (suc n) i e l =
     let p = both-true (every f n) (f n) (sym (every-open f n) ∙ e) in
     ⊎-elim (λ q. rw q (p .1)) (λ m. every-one f n i (p .0) m) (eq-or-lt-of-le (le-of-suc-le-suc l))
 
-pub some-zero : (f : ℕ → Bool) → some f 0 ≡ false
+pub some-nothing : (f : ℕ → Bool) → some f 0 ≡ false
 unfolding some
-some-zero f = refl
+some-nothing f = refl
 
 pub some-open : (f : ℕ → Bool) (i : ℕ) → some f (suc i) ≡ (some f i || f i)
 unfolding some
 some-open f i = refl
+
+pub some-more : (f : ℕ → Bool) (i : ℕ) → some f i ≡ false → f i ≡ false → some f (suc i) ≡ false
+some-more f i e h = some-open f i ∙ simp (e, h)
+
+or-right : (a b : Bool) → b ≡ true → (a || b) ≡ true
+or-right true b e = refl
+or-right false b e = e
+
+pub some-found : (f : ℕ → Bool) (n i : ℕ) → i < n → f i ≡ true → some f n ≡ true
+some-found f zero i l e = absurd (omega arith)
+some-found f (suc n) i l e =
+    some-open f n
+    ∙ ⊎-elim (λ q. or-right (some f n) (f n) (rw q at e)) (λ m. simp (some-found f n i m e)) (eq-or-lt-of-le (le-of-suc-le-suc l))
 
 pub some-none : (f : ℕ → Bool) (n i : ℕ) → some f n ≡ false → i < n → f i ≡ false
 some-none f zero i e l = absurd (omega arith)
@@ -63,12 +77,10 @@ alike-of p q e =
 pub record Member (js : List Job) (i : ℕ) : Type 0 where
   pub rules : Rules (jobAt js i)
   pub accepted : jobAt js i .accepted ≡ jobAt js 0 .accepted
-  pub plans : Alike (planAt js 0) (planAt js i)
-
-  pub lane-most : LaneCount (lanesOf (planAt js i))
+  pub alike : Alike (planAt js 0) (planAt js i)
 
 -- the rules of a group as facts
-pub record Lawful (g : Group) : Type 0 where
+pub record LawfulGroup (g : Group) : Type 0 where
   pub some : 0 < g .count
   pub few : g .count ≤ groupLimit
   pub member : (i : ℕ) → i < g .count → Member (g .jobs) i
@@ -83,7 +95,7 @@ differing-of : (js : List Job) (n : ℕ) → differing js n ≡ false → (eqb n
 unfolding differing
 differing-of js n e = neither-true (eqb n 0) _ e
 
-pub lawful-group : (g : Group) → groupLawful g ≡ true → Lawful g
+pub lawful-group : (g : Group) → groupLawful g ≡ true → LawfulGroup g
 lawful-group g e =
     let a = group-of g e in
     let b = both-true (not (tooMany (g .count))) _ (a .0) in
@@ -95,11 +107,24 @@ lawful-group g e =
         let j : Job = jobAt (g .jobs) i in
         let own = both-true (lawful j) _ (every-one (λ k. lawful (jobAt (g .jobs) k) && eqb (jobAt (g .jobs) k .accepted) (jobAt (g .jobs) 0 .accepted)) (g .count) i (a .1) l) in
         let same = not-false _ (some-none (λ k. not (alike (planAt (g .jobs) 0) (planAt (g .jobs) k))) (g .count) i (d .1) l) in
-        let rules = rules-of (j .plan) (j .accepted) (j .taken) (j .flag) (own .0) in
         record {
-          rules = rules;
+          rules = rules-of (j .plan) (j .accepted) (j .taken) (j .flag) (own .0);
           accepted = eqb-true _ _ (own .1);
-          plans = alike-of (planAt (g .jobs) 0) (planAt (g .jobs) i) same;
-          lane-most = lane-count (j .plan .kind) (j .plan .layout) (j .plan .lanes) (j .flag) (rules .kind-fits);
+          alike = alike-of (planAt (g .jobs) 0) (planAt (g .jobs) i) same;
         };
     }
+
+pub lanes-here : (j : Job) → Rules j → LaneCount (lanesOf (j .plan))
+lanes-here j r = lane-count _ _ _ _ (r .kind-fits)
+
+pub need-most : (js : List Job) (i : ℕ) → Rules (jobAt js i) → needs js i ≤ 131072
+need-most js i r = omega (arith, mul-le-mul (lanes-here (jobAt js i) r .most) (r .sizes .target-width .most))
+
+-- ---- each of them changed
+pub jobs-none : (f : Job → Job) (js : List Job) → eachJob f 0 js ≡ js
+unfolding eachJob
+jobs-none f js = refl
+
+pub jobs-next : (f : Job → Job) (js : List Job) (i : ℕ) (now : List Job) (j : Job) → now ≡ eachJob f i js → j ≡ f (jobAt js i) → set now i j ≡ eachJob f (suc i) js
+unfolding eachJob
+jobs-next f js i now j e h = rw (e, h)
