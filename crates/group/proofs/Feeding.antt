@@ -21,28 +21,15 @@ use Rattle.job.specs.Calls.{rowAccepted, fed, moreAccepted}
 use Rattle.job.specs.Inner.{RowAsks}
 use Rattle.job.proofs.RowIn.{row-in}
 use Rattle.group_parts.specs.Parts.{offset, partAt, putAt, eachPart}
-use Rattle.group_parts.proofs.Cutting.{offset-zero, offset-suc, offset-most, offset-next, part-long, each-none, each-more, each-kept, each-length, each-same, each-twice}
+use Rattle.group_parts.proofs.Cutting.{offset-zero, offset-suc, part-long, each-none, each-more, each-kept, each-length, each-same, each-twice}
 use Rattle.group_rules.specs.declared.Group.{Group}
 use Rattle.group_rules.specs.Group.{jobAt, planAt, eachJob, needs, total, groupLawful}
 use Rattle.group_rules.specs.Tests.{groupOfferNumber}
 use Rattle.group.specs.Inner.{RowForAll}
 use Rattle.group.specs.Calls.{groupCount, withJobs}
-use Rattle.group.proofs.Members.{Member, LawfulGroup, lawful-group, lanes-here, need-most, jobs-none, jobs-next}
+use Rattle.group.proofs.Members.{LawfulGroup, lawful-group, lanes-here, jobs-none, jobs-next}
 use Rattle.group.proofs.Kept.{accepted-length, fed-none, fed-suc, fed-length}
-use Rattle.group.proofs.Going.{Goes, goes, in-lent, in-source, same-stride}
-
--- ---- where the part of a job stands, half being the values of a half as the code has them
-module _ (g : Group) (few : LawfulGroup g) (at i half : ℕ) (w : List ℕ)
-    (room : total (g .jobs) (g .count) ≤ length w) (l : i < g .count)
-    (e : at ≡ total (g .jobs) i) (h : half ≡ rowBytes (lanesOf (planAt (g .jobs) i)) (planAt (g .jobs) i .target .width)) where
-  narrow : (k : ℕ) → k < g .count → needs (g .jobs) k ≤ 131072
-  narrow k m = need-most (g .jobs) k (few .member k m .rules)
-
-  pub part-small : at + 2 * half ≤ 1048576
-  part-small = omega (arith, few .few, narrow i l, h, e, offset-most (needs (g .jobs)) 131072 i (λ k m. narrow k (omega arith)))
-
-  pub part-fits : at + 2 * half ≤ length w
-  part-fits = omega (arith, e, h, offset-next (needs (g .jobs)) i (g .count) l)
+use Rattle.group.proofs.Going.{Goes, part-small, part-fits, in-lent, in-source, same-stride}
 
 -- ---- a source row for every job
 pub record Feeding (g : Group) (s : ℕ) (row work₀ work : List ℕ) (at i : ℕ) : Type 0 where
@@ -129,11 +116,11 @@ module _ {g : Group} {c : ℕ} {rows work₀ work : List ℕ} {r : ℕ} (o : Goe
   pub row-lent : stride * r + stride ≤ length rows
   row-lent =
       let m : stride * suc r ≤ stride * groupCount g (length rows) = mul-le-mul-left stride (omega arith) in
-      let q : stride * groupCount g (length rows) ≤ length rows = rw h (in-lent g rows (length work₀) o) in
+      let q : stride * groupCount g (length rows) ≤ length rows = rw h (in-lent g (length rows) (length work₀) o) in
       omega (arith, m, q)
 
   pub row-number : k + r < 16384
-  row-number = omega (arith, in-source g rows (length work₀) o, o .lawful .member 0 (o .lawful .some) .rules .sizes .source-height .most)
+  row-number = omega (arith, in-source g (length rows) (length work₀) o, o .lawful .member 0 (o .lawful .some) .rules .sizes .source-height .most)
 
   -- the row as the code lends it
   abbrev row : List ℕ
