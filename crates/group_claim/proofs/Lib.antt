@@ -5,3 +5,7 @@ pub mod Stepping
 pub mod OfferSteps
 pub mod TakeSteps
 pub mod Projecting
+pub mod Starting
+pub mod Standing
+pub mod Claims
+pub mod Theorem
