@@ -14,7 +14,8 @@ use Rattle.job_rules.specs.Rules.{lanesOf}
 use Rattle.job.specs.declared.Job.{Job}
 use Rattle.job.specs.Calls as job
 use Rattle.job.proofs.Views.{offer-view, take-view}
-use Rattle.job_claim.specs.Calls.{Call, Offer, Take, Seen, Run, seenOffer, seenTake, step, run, NoneRefused}
+use Rattle.job_claim.specs.Calls.{Call, Offer, Take, Seen, Run, seenOffer, seenTake, step, run}
+use Rattle.group_claim.specs.Claim.{AllGo}
 use Rattle.job_claim.proofs.Reading.{shape-of}
 use Rattle.job_claim.proofs.Feeding.{fed-length}
 use Rattle.job_claim.proofs.Taking.{left-length}
@@ -105,8 +106,8 @@ unfolding run
 run-append p r [] ys = refl
 run-append p r (x ∷ xs) ys = run-append p (step p r x) xs ys
 
-pub unrefused-append : (p : Plan) (r : Run) (xs ys : List Call) → NoneRefused p r xs → NoneRefused p (run p r xs) ys → NoneRefused p r (xs ++ ys)
+pub all-go-append : (p : Plan) (r : Run) (xs ys : List Call) → AllGo p r xs → AllGo p (run p r xs) ys → AllGo p r (xs ++ ys)
 unfolding run
-unrefused-append p r [] ys a b = b
-unrefused-append p r (Offer rows lent ∷ xs) ys a b = (a .0, unrefused-append p (step p r (Offer rows lent)) xs ys (a .1) b)
-unrefused-append p r (Take out lent ∷ xs) ys a b = (a .0, unrefused-append p (step p r (Take out lent)) xs ys (a .1) b)
+all-go-append p r [] ys a b = b
+all-go-append p r (Offer rows lent ∷ xs) ys a b = (a .0, a .1, all-go-append p (step p r (Offer rows lent)) xs ys (a .2) b)
+all-go-append p r (Take out lent ∷ xs) ys a b = (a .0, all-go-append p (step p r (Take out lent)) xs ys (a .1) b)

@@ -17,15 +17,16 @@ use Rattle.job_rules.specs.declared.Plan.{Plan}
 use Rattle.job_rules.specs.Rules.{lanesOf, R, badRows}
 use Rattle.job_rules.proofs.Rules.{rules-good}
 use Rattle.job.specs.declared.Job.{Job}
-use Rattle.job.specs.Record.{lawful, Rules}
+use Rattle.job.specs.Record.{lawful, readyOf, Rules}
 use Rattle.job.specs.Calls as job
+use Rattle.job.proofs.Ready.{ready-some}
 use Rattle.job.proofs.Views.{whole-good}
 use Rattle.job_claim.specs.Claim.{WrongRows}
 use Rattle.job_claim.proofs.Invariant.{some-lent}
 use Rattle.group_rules.specs.declared.Group.{Group}
 use Rattle.group_rules.specs.Group.{groupLimit, jobAt, planAt, every, some, total, alike, differing, tooMany, groupLawful, groupOf}
 use Rattle.group_rules.specs.Tests.{readyAt, someReady, lacks, groupOfferCauses, groupOfferNumber, groupTakeCauses, groupTakeNumber}
-use Rattle.group.specs.Calls.{mostRows, groupCount, groupOfferRows}
+use Rattle.group.specs.Calls.{mostRows, groupCount, groupOfferRows, groupReady}
 use Rattle.group_claim.specs.Calls.{GroupRun, OfferAll, TakeOf, groupStep, offerNumber, offerRows, takeNumber, takeOut}
 use Rattle.group_claim.specs.Claim.{planIn, RightOffer, RightTake, ShortWork, Ready, NoneReady, SomeReady, Smallest, GroupClaim}
 use Rattle.group_claim.proofs.Jobs.{every-all, some-none, none-some, some-one}
@@ -284,13 +285,31 @@ module _ (plans : List Plan) (count : ℕ) (work : List ℕ) (r : GroupRun) (v :
               let away = ap none-ready (v .job-is k l) ∙ le-leb (R (planIn plans count k) (r .seen k .accepted)) (r .seen k .taken) h in
               first-at takeTests 4 (lawful-passes, (named-passes, (exact-passes, (take-room-passes, tt)))) away
 
+  -- ---- the rows ready
+  pub ready-plus : (k : ℕ) → k < count → groupReady g k + r .seen k .taken ≡ R (planIn plans count k) (r .seen k .accepted)
+  unfolding groupReady
+  ready-plus k l =
+      let named : lacks g k ≡ false = lt-leb (g .count) k (omega (arith, v .count-is)) in
+      let told : groupReady g k ≡ readyOf (jobAt js k) = simp (lawful-group, named) in
+      let good = rules-good (planIn plans count k) _ _ _ (v .rules k l) in
+      let some = ap readyOf (v .job-is k l) ∙ sym (ready-some (counted (planIn plans count k) (r .seen k)) (R (planIn plans count k) (r .seen k .accepted)) good refl) in
+      omega (arith, told, some, v .rules k l .high)
+
+  pub ready-none : (k : ℕ) → count ≤ k → groupReady g k ≡ 0
+  unfolding groupReady
+  ready-none k l = let lacking : lacks g k ≡ true = le-leb (g .count) k (omega (arith, v .count-is)) in simp (lawful-group, lacking)
+
   pub group-claim : GroupClaim plans count work r
   group-claim = record {
+    count-stays = v .count-is;
+    beyond-stays = v .beyond-is;
     together = λ i l. v .together i;
     offer-goes = λ rows lent b h l. (offer-zero rows lent b h l, offer-some rows lent b h l);
     offer-count = offer-counts;
     offer-ready = offer-seven;
     offer-all = offer-eight;
+    ready-told = ready-plus;
+    ready-lacking = ready-none;
     take-goes = λ k out lent l b. take-zero k out lent l (b .exact) (b .room);
     take-none = λ k out lent l b. take-nine k out lent l (b .exact) (b .room);
     take-lacking = take-thirteen;

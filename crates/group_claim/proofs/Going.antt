@@ -117,7 +117,7 @@ module _ (g : Group) (rows : List ℕ) (w : ℕ) (o : Goes g (length rows) w) wh
       count-some g (length rows) (omega arith)
 
   -- the bytes fed are the rows counted
-  fed-long : length (fedRows g rows) ≡ wide 0 * rows-in
+  pub fed-long : length (fedRows g rows) ≡ wide 0 * rows-in
   fed-long =
       let l : rows-in ≤ lentRows (planAt js 0) (length rows) = omega (arith, count-most g (length rows)) in
       length-take-le (wide 0 * rows-in) rows (omega (arith, rows-lent (planAt js 0) (length rows) (o .whole), mul-le-mul-left (wide 0) l))

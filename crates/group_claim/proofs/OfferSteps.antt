@@ -14,15 +14,16 @@ use Rattle.job_rules.specs.Rules.{lanesOf}
 use Rattle.job.specs.declared.Job.{Job}
 use Rattle.job.specs.Calls as job
 use Rattle.job.specs.Calls.{moreAccepted}
-use Rattle.job_claim.specs.Calls.{Call, Offer, Seen, seenOffer, run, NoneRefused}
+use Rattle.job_claim.specs.Calls.{Call, Offer, Seen, seenOffer, run}
 use Rattle.group_parts.specs.Parts.{offset, partAt, eachPart}
 use Rattle.group_parts.proofs.Cutting.{offset-next, part-cong, part-append, part-within, part-long, each-part, each-length, each-rest}
 use Rattle.group_rules.specs.declared.Group.{Group}
 use Rattle.group_rules.specs.Group.{jobAt, planAt, eachJob, needs, total}
 use Rattle.group.specs.Calls.{groupCount, groupOfferRows, fedRows, withJobs, groupOffered, groupOfferWork}
 use Rattle.group_claim.specs.Calls.{GroupCall, OfferAll, GroupRun, groupStep, alone, called, offerNumber, offerRows}
+use Rattle.group_claim.specs.Claim.{AllGo}
 use Rattle.group_claim.proofs.Jobs.{jobs-long, job-beyond, job-changed}
-use Rattle.group_claim.proofs.Going.{Goes, goes, alone-goes, alone-count, bytes-same}
+use Rattle.group_claim.proofs.Going.{Goes, goes, fed-long, alone-goes, alone-count, bytes-same}
 use Rattle.group_claim.proofs.Alone.{same-run, offer-length, offer-rows-is, offer-job-is, seen-same, offer-alone, run-one}
 use Rattle.group_claim.proofs.Stepping.{Stepped}
 
@@ -122,9 +123,11 @@ module _ (r : GroupRun) (long : r .group .count ≤ length (r .group .jobs)) (ro
         ∙ ap (own i) (part-within (offset (needs js) i) (needs js i) lent (r .work) (omega (arith, within, lent-long)))
 
     -- ---- what is counted
+    all-rows : job.offerRows (jobAt js i) (length fed) (needs js i) ≡ rows-in
+    all-rows = offer-rows-is (jobAt js i) (length fed) (needs js i) (alone-goes g rows (length lent-work) went i l) ∙ alone-count g rows (length lent-work) went i l
+
     seen-then : next .seen i ≡ seenOffer (planAt js i) (r .seen i) fed (job.offerRows (jobAt js i) (length fed) (needs js i))
     seen-then =
-        let all-rows = offer-rows-is (jobAt js i) (length fed) (needs js i) (alone-goes g rows (length lent-work) went i l) ∙ alone-count g rows (length lent-work) went i l in
         let mine : ℕ = rowBytes (lanesOf (planAt js i)) (planAt js i .source .width) * rows-in in
         let theirs : ℕ = rowBytes (lanesOf (planAt js 0)) (planAt js 0 .source .width) * rows-in in
         next-seen i
@@ -138,11 +141,20 @@ module _ (r : GroupRun) (long : r .group .count ≤ length (r .group .jobs)) (ro
           ∙ run-one (planAt js i) (alone i r) (Offer fed (needs js i))
           ∙ offer-alone (planAt js i) (alone i r) (needs js i) part-whole fed)
 
-    unrefused : NoneRefused (planAt js i) (alone i r) (called i r (OfferAll rows lent))
-    unrefused =
-        let all-lent = ap length (take-all (needs js i) (partAt (needs js) i (r .work)) (omega (arith, part-whole))) ∙ part-whole in
-        subst (λ (x : List Call). NoneRefused (planAt js i) (alone i r) x) (sym (called-then i))
-        (ap (λ (x : ℕ). job.offerNumber (jobAt js i) (length fed) x) all-lent ∙ alone-goes g rows (length lent-work) went i l, tt)
+    -- all of it goes through, and every row is accepted
+    lent-all : length (take (needs js i) (partAt (needs js) i (r .work))) ≡ needs js i
+    lent-all = ap length (take-all (needs js i) (partAt (needs js) i (r .work)) (omega (arith, part-whole))) ∙ part-whole
+
+    all-bytes : rowBytes (lanesOf (planAt js i)) (planAt js i .source .width) * rows-in ≡ length fed
+    all-bytes = bytes-same g rows (length lent-work) went i l ∙ sym (fed-long g rows (length lent-work) went)
+
+    all-go : AllGo (planAt js i) (alone i r) (called i r (OfferAll rows lent))
+    all-go =
+        let row : ℕ = rowBytes (lanesOf (planAt js i)) (planAt js i .source .width) in
+        subst (λ (x : List Call). AllGo (planAt js i) (alone i r) x) (sym (called-then i))
+        (ap (λ (x : ℕ). job.offerNumber (jobAt js i) (length fed) x) lent-all ∙ alone-goes g rows (length lent-work) went i l,
+          ap (λ (x : ℕ). row * job.offerRows (jobAt js i) (length fed) x) lent-all ∙ ap (λ (x : ℕ). row * x) all-rows ∙ all-bytes,
+          tt)
 
   pub offer-accepted : Stepped r (groupStep r (OfferAll rows lent)) (OfferAll rows lent)
   offer-accepted = record {
@@ -153,6 +165,7 @@ module _ (r : GroupRun) (long : r .group .count ≤ length (r .group .jobs)) (ro
     rest-kept = rest;
     rows-in = rows-in;
     together = λ k. ap (λ (s : Seen). s .accepted) (next-seen k);
+    beyond-kept = λ k l. ap (λ (x : List Job). jobAt x k) next-jobs ∙ job-beyond (λ j. moreAccepted j rows-in) (g .count) k js l;
     alone-is = alone-then;
-    unrefused = unrefused;
+    all-go = all-go;
   }

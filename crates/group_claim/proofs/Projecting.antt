@@ -13,11 +13,12 @@ use Rattle.pixels.proofs.Truths.{test}
 use Rattle.job_rules.specs.declared.Plan.{Plan}
 use Rattle.job_rules.specs.Rules.{lanesOf}
 use Rattle.job.specs.declared.Job.{Job}
-use Rattle.job_claim.specs.Calls.{Call, Run, run, NoneRefused}
+use Rattle.job_claim.specs.Calls.{Call, Run, run}
 use Rattle.group_parts.proofs.Cutting.{offset-cong}
-use Rattle.group_rules.specs.Group.{planAt, needs, total}
+use Rattle.group_rules.specs.Group.{jobAt, planAt, needs, total}
 use Rattle.group_claim.specs.Calls.{GroupCall, OfferAll, TakeOf, GroupRun, groupStep, groupRun, alone, called, callsOf, offerNumber, takeNumber}
-use Rattle.group_claim.proofs.Alone.{run-none, run-append, unrefused-append}
+use Rattle.group_claim.specs.Claim.{AllGo}
+use Rattle.group_claim.proofs.Alone.{run-none, run-append, all-go-append}
 use Rattle.group_claim.proofs.Stepping.{Stepped, offer-dropped, take-dropped}
 use Rattle.group_claim.proofs.OfferSteps.{offer-accepted}
 use Rattle.group_claim.proofs.TakeSteps.{take-handed}
@@ -54,7 +55,7 @@ calls-next i r call calls = refl
 -- ---- of each job
 pub record Projected (r end : GroupRun) (calls : List GroupCall) (i : ℕ) : Type 0 where
   pub same : alone i end ≡ run (planAt (r .group .jobs) i) (alone i r) (callsOf i r calls)
-  pub none-refused : NoneRefused (planAt (r .group .jobs) i) (alone i r) (callsOf i r calls)
+  pub all-go : AllGo (planAt (r .group .jobs) i) (alone i r) (callsOf i r calls)
 
 pub projects : (r : GroupRun) → r .group .count ≤ length (r .group .jobs) → (calls : List GroupCall) (i : ℕ) → i < r .group .count
     → Projected r (groupRun r calls) calls i
@@ -62,7 +63,7 @@ projects r long [] i l = record {
   same =
       ap (λ (x : GroupRun). alone i x) (group-none r)
       ∙ sym (ap (λ (x : List Call). run (planAt (r .group .jobs) i) (alone i r) x) (calls-none i r) ∙ run-none (planAt (r .group .jobs) i) (alone i r));
-  none-refused = rw (calls-none i r) tt;
+  all-go = rw (calls-none i r) tt;
 }
 projects r long (call ∷ calls) i l =
     let p : Plan = planAt (r .group .jobs) i in
@@ -76,11 +77,11 @@ projects r long (call ∷ calls) i l =
           ∙ on .same
           ∙ ap₂ (λ (q : Plan) (x : Run). run q x rest) (s .plans-kept i) (s .alone-is i l)
           ∙ sym (ap (λ (x : List Call). run p (alone i r) x) (calls-next i r call calls) ∙ run-append p (alone i r) (called i r call) rest);
-      none-refused =
-          subst (λ (x : List Call). NoneRefused p (alone i r) x) (sym (calls-next i r call calls))
-          (unrefused-append p (alone i r) (called i r call) rest (s .unrefused i l)
-          (subst (λ (x : Run). NoneRefused p x rest) (s .alone-is i l)
-          (subst (λ (q : Plan). NoneRefused q (alone i next) rest) (s .plans-kept i) (on .none-refused))));
+      all-go =
+          subst (λ (x : List Call). AllGo p (alone i r) x) (sym (calls-next i r call calls))
+          (all-go-append p (alone i r) (called i r call) rest (s .all-go i l)
+          (subst (λ (x : Run). AllGo p x rest) (s .alone-is i l)
+          (subst (λ (q : Plan). AllGo q (alone i next) rest) (s .plans-kept i) (on .all-go))));
     }
 
 -- ---- of the group
@@ -89,6 +90,7 @@ pub record Kept (r end : GroupRun) : Type 0 where
   pub plans-kept : (k : ℕ) → planAt (end .group .jobs) k ≡ planAt (r .group .jobs) k
   pub work-kept : length (end .work) ≡ length (r .work)
   pub rest-kept : drop (total (r .group .jobs) (r .group .count)) (end .work) ≡ drop (total (r .group .jobs) (r .group .count)) (r .work)
+  pub beyond-kept : (k : ℕ) → r .group .count ≤ k → jobAt (end .group .jobs) k ≡ jobAt (r .group .jobs) k
   -- the rows that all jobs accepted
   pub rows-in : ℕ
   pub together : (k : ℕ) → end .seen k .accepted ≡ r .seen k .accepted + rows-in
@@ -103,6 +105,7 @@ keeps r long [] = rw (group-none r) (record {
   plans-kept = λ k. refl;
   work-kept = refl;
   rest-kept = refl;
+  beyond-kept = λ k l. refl;
   rows-in = 0;
   together = λ k. omega arith;
 })
@@ -118,6 +121,7 @@ keeps r long (call ∷ calls) =
       plans-kept = λ k. on .plans-kept k ∙ s .plans-kept k;
       work-kept = on .work-kept ∙ s .work-kept;
       rest-kept = (rw ends at (on .rest-kept)) ∙ s .rest-kept;
+      beyond-kept = λ k l. on .beyond-kept k (omega (arith, s .count-kept)) ∙ s .beyond-kept k l;
       rows-in = s .rows-in + on .rows-in;
       together = λ k. on .together k ∙ (let q = s .together k in omega (arith, q));
     })

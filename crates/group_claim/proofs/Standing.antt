@@ -15,20 +15,20 @@ use Rattle.job_rules.proofs.Rules.{rules-good}
 use Rattle.job.specs.declared.Job.{Job}
 use Rattle.job.specs.Record.{lawful, Rules}
 use Rattle.job.specs.Calls as job
-use Rattle.job_claim.specs.Calls.{Seen, Run, run, begun, NoneRefused}
+use Rattle.job_claim.specs.Calls.{Seen, Run, run, begun}
 use Rattle.job_claim.specs.Claim.{Claim}
 use Rattle.job_claim.proofs.Invariant as invariant
 use Rattle.job_claim.proofs.Invariant.{run-kept, begun-kept}
 use Rattle.job_claim.proofs.Theorem.{demand-3}
 use Rattle.group_rules.specs.declared.Group.{Group}
-use Rattle.group_rules.specs.Group.{groupLimit, jobAt, planAt, every, some, total, alike, differing, tooMany, groupLawful, groupOf}
+use Rattle.group_rules.specs.Group.{groupLimit, spare, jobAt, planAt, every, some, total, alike, differing, tooMany, groupLawful, groupOf}
 use Rattle.group_rules.specs.Tests.{readyAt, someReady, groupStartNumber}
 use Rattle.group.specs.Calls.{mostRows}
 use Rattle.group_claim.specs.Calls.{GroupCall, GroupRun, groupRun, groupBegun, alone, callsOf}
-use Rattle.group_claim.specs.Claim.{planIn, partIn, AsAlone, NoneReady, SomeReady}
+use Rattle.group_claim.specs.Claim.{planIn, partIn, AllGo, AsAlone}
 use Rattle.group_claim.proofs.Jobs.{every-all, some-none, none-some, some-one, Together, together-of}
 use Rattle.group_claim.proofs.Projecting.{Projected, projects, Kept, keeps, total-kept}
-use Rattle.group_claim.proofs.Starting.{Starts, starts, began-group, began-count, began-plan, began-long, began-work-long, began-rest, part-lent, start-accepted, began-alone}
+use Rattle.group_claim.proofs.Starting.{Starts, starts, began-group, began-count, began-plan, began-beyond, began-long, began-work-long, began-rest, part-lent, start-accepted, began-alone}
 
 -- the record of what was counted of a job
 abbrev pub counted : Plan → Seen → Job
@@ -53,10 +53,10 @@ module _ (plans : List Plan) (count : ℕ) (work : List ℕ) (e : groupStartNumb
       projected .same
       ∙ ap₂ (λ (q : Plan) (x : Run). run q x (callsOf i first calls)) (began-plan plans count work e i) (began-alone plans count work e i l)
 
-  none-refused : NoneRefused p (begun p part) (callsOf i first calls)
-  none-refused =
-      subst (λ (x : Run). NoneRefused p x (callsOf i first calls)) (began-alone plans count work e i l)
-      (subst (λ (q : Plan). NoneRefused q (alone i first) (callsOf i first calls)) (began-plan plans count work e i) (projected .none-refused))
+  all-go : AllGo p (begun p part) (callsOf i first calls)
+  all-go =
+      subst (λ (x : Run). AllGo p x (callsOf i first calls)) (began-alone plans count work e i l)
+      (subst (λ (q : Plan). AllGo q (alone i first) (callsOf i first calls)) (began-plan plans count work e i) (projected .all-go))
 
   formed-so : Formed p
   formed-so = starts plans count (length work) e .formed-so i l
@@ -64,7 +64,7 @@ module _ (plans : List Plan) (count : ℕ) (work : List ℕ) (e : groupStartNumb
   pub as-alone : AsAlone plans count work calls i
   as-alone = record {
     same = same;
-    none-refused = none-refused;
+    all-go = all-go;
     claim = subst (λ (x : Run). Claim p part x) (sym same) (demand-3 .every-list p part formed-so (start-accepted plans count work e i l) (callsOf i first calls));
   }
 
@@ -79,6 +79,7 @@ pub record Standing (plans : List Plan) (count : ℕ) (work : List ℕ) (r : Gro
   pub some-job : 0 < count
   pub count-is : r .group .count ≡ count
   pub plan-is : (k : ℕ) → planAt (r .group .jobs) k ≡ planIn plans count k
+  pub beyond-is : (k : ℕ) → count ≤ k → jobAt (r .group .jobs) k ≡ spare
   pub same-source : differing (groupOf plans count .jobs) count ≡ false
   pub job-is : (i : ℕ) → i < count → jobAt (r .group .jobs) i ≡ counted (planIn plans count i) (r .seen i)
   pub rules : (i : ℕ) → i < count → Rules (counted (planIn plans count i) (r .seen i))
@@ -101,6 +102,7 @@ standing plans count work e calls =
       some-job = together-of (groupOf plans count .jobs) count (o .same-source) .some-job;
       count-is = k .count-kept ∙ began-count plans count work e;
       plan-is = λ i. k .plans-kept i ∙ began-plan plans count work e i;
+      beyond-is = λ i l. k .beyond-kept i (omega (arith, began-count plans count work e)) ∙ began-beyond plans count work e i l;
       same-source = o .same-source;
       job-is = λ i l.
           let j = job-kept plans count work e calls i l in

@@ -6,7 +6,7 @@ use mathlib.Core.Bool.{Bool, true, false}
 use mathlib.Core.Logic.{_⊎_, inl, inr, ⊎-elim}
 use native.Mathlib.Omega.{arith}
 use native.Mathlib.Nat.{eq-or-lt-of-le, le-of-suc-le-suc}
-use lib.ListN.{length, take, drop, set, replicate, length-set, length-replicate, length-append, length-drop, replicate-append-replicate, drop-of-length-le}
+use lib.ListN.{length, getD, take, drop, set, replicate, length-set, length-replicate, length-append, length-drop, replicate-append-replicate, drop-of-length-le}
 use lib.Seq.{take-at, drop-at, getD-set-same, getD-set-other}
 use borrow.Author.Tests.{eq-eqb, ltb-false, le-ltb}
 use Rattle.pixels.specs.Sizes.{workValues, badSizes, badLanes, cropBeyond}
@@ -32,6 +32,13 @@ use Rattle.group_claim.specs.Claim.{planIn, partIn}
 use Rattle.group_claim.proofs.Jobs.{some-none}
 
 -- ---- the jobs that a start forms
+
+-- the record of zeros wherever one looks
+getD-alike : (n k : ℕ) → getD (replicate n spare) k spare ≡ spare
+getD-alike zero k = refl
+getD-alike (suc n) zero = refl
+getD-alike (suc n) (suc k) = getD-alike n k
+
 module _ (plans : List Plan) where
   fresh-zero : freshJobs plans 0 ≡ replicate groupLimit spare
   unfolding freshJobs
@@ -53,6 +60,13 @@ module _ (plans : List Plan) where
         (λ q. rw q (getD-set-same (freshJobs plans n) n (fresh (formed (givenAt plans n))) spare (rw (fresh-long n) (omega arith))))
         (λ m. getD-set-other (freshJobs plans n) n k (fresh (formed (givenAt plans n))) spare (omega arith) ∙ fresh-at n k (omega arith) m)
         (eq-or-lt-of-le (le-of-suc-le-suc l))
+
+  pub fresh-beyond : (n k : ℕ) → n ≤ k → jobAt (freshJobs plans n) k ≡ spare
+  fresh-beyond zero k l = ap (λ (x : List Job). jobAt x k) fresh-zero ∙ getD-alike groupLimit k
+  fresh-beyond (suc n) k l =
+      ap (λ (x : List Job). jobAt x k) (fresh-next n)
+      ∙ getD-set-other (freshJobs plans n) n k (fresh (formed (givenAt plans n))) spare (omega arith)
+      ∙ fresh-beyond n k (omega arith)
 
 formed-by : (kind : Kind) (p : Plan) → Formed (formedBy kind p)
 formed-by Picture p = inl refl
@@ -122,6 +136,9 @@ module _ (plans : List Plan) (count : ℕ) (work : List ℕ) (e : groupStartNumb
 
   pub began-plan : (i : ℕ) → planAt (groupBegun plans count work .group .jobs) i ≡ planIn plans count i
   began-plan i = ap (λ (g : Group). planAt (g .jobs) i) began-group
+
+  pub began-beyond : (k : ℕ) → count ≤ k → jobAt (groupBegun plans count work .group .jobs) k ≡ spare
+  began-beyond k l = ap (λ (g : Group). jobAt (g .jobs) k) began-group ∙ fresh-beyond plans (looked count) k (omega arith)
 
   pub began-long : groupBegun plans count work .group .count ≤ length (groupBegun plans count work .group .jobs)
   began-long = omega (arith, ap (λ (g : Group). length (g .jobs)) began-group, fresh-long plans (looked count), began-count, o .few)

@@ -9,13 +9,13 @@ use lib.ListN.{length, take, drop, take-append-drop}
 use Rattle.job_rules.specs.declared.Plan.{Plan}
 use Rattle.job_rules.specs.Rules.{lanesOf}
 use Rattle.job.specs.declared.Job.{Job}
-use Rattle.job_claim.specs.Calls.{Call, Seen, Run, seenTake, run, NoneRefused}
+use Rattle.job_claim.specs.Calls.{Call, Seen, Run, seenTake, run}
 use Rattle.group_parts.specs.Parts.{partAt}
 use Rattle.group_rules.specs.declared.Group.{Group}
 use Rattle.group_rules.specs.Group.{jobAt, planAt, needs, total}
 use Rattle.group.specs.Calls.{groupOfferRows, groupOffered, groupOfferWork, groupTaken, groupTakeOut, groupTakeWork}
 use Rattle.group_claim.specs.Calls.{GroupCall, OfferAll, TakeOf, GroupRun, groupStep, alone, called, offerNumber, offerRows, takeNumber, takeOut}
-use Rattle.group_claim.specs.Claim.{Same}
+use Rattle.group_claim.specs.Claim.{AllGo, Same}
 use Rattle.group_claim.proofs.Alone.{same-run, seen-none, run-none}
 
 pub record Stepped (r next : GroupRun) (call : GroupCall) : Type 0 where
@@ -27,9 +27,10 @@ pub record Stepped (r next : GroupRun) (call : GroupCall) : Type 0 where
   -- the rows that all jobs accepted
   pub rows-in : ℕ
   pub together : (k : ℕ) → next .seen k .accepted ≡ r .seen k .accepted + rows-in
-  -- of a job: its own calls, none of them turned away
+  pub beyond-kept : (k : ℕ) → r .group .count ≤ k → jobAt (next .group .jobs) k ≡ jobAt (r .group .jobs) k
+  -- of a job: its own calls, all of which go through
   pub alone-is : (i : ℕ) → i < r .group .count → alone i next ≡ run (planAt (r .group .jobs) i) (alone i r) (called i r call)
-  pub unrefused : (i : ℕ) → i < r .group .count → NoneRefused (planAt (r .group .jobs) i) (alone i r) (called i r call)
+  pub all-go : (i : ℕ) → i < r .group .count → AllGo (planAt (r .group .jobs) i) (alone i r) (called i r call)
 
 -- ---- turned away
 
@@ -43,10 +44,11 @@ stays r next call s none = record {
   rest-kept = ap (λ (w : List ℕ). drop (total (r .group .jobs) (r .group .count)) w) (s .work);
   rows-in = 0;
   together = λ k. ap (λ (t : Seen). t .accepted) (s .seen k) ∙ omega arith;
+  beyond-kept = λ k l. ap (λ (g : Group). jobAt (g .jobs) k) (s .group);
   alone-is = λ i l.
       same-run _ _ (ap (λ (g : Group). jobAt (g .jobs) i) (s .group)) (ap₂ (λ (g : Group) (w : List ℕ). partAt (needs (g .jobs)) i w) (s .group) (s .work)) (s .seen i)
       ∙ sym (ap (λ (x : List Call). run (planAt (r .group .jobs) i) (alone i r) x) (none i) ∙ run-none (planAt (r .group .jobs) i) (alone i r));
-  unrefused = λ i l. rw (none i) tt;
+  all-go = λ i l. rw (none i) tt;
 }
 
 module _ (r : GroupRun) (rows : List ℕ) (lent : ℕ) (e : eqb (offerNumber r rows lent) 0 ≡ false) where

@@ -8,7 +8,7 @@ use native.Mathlib.Omega.{arith}
 use lib.Dec.{eqb}
 use lib.ListN.{length, take, drop, set, length-set, length-take, take-append-drop}
 use lib.Seq.{take-all, drop-drop, length-front, drop-append-le, getD-set-same, getD-set-other}
-use borrow.Author.Tests.{eq-eqb, eqb-true, eqb-false}
+use borrow.Author.Tests.{eq-eqb, ne-eqb, eqb-true, eqb-false}
 use borrow.Rule.Slice.PartMut.{same-len-mid}
 use Rattle.arithmetic.proofs.Orders.{le-or-lt}
 use Rattle.pixels.specs.Sizes.{workValues}
@@ -18,13 +18,14 @@ use Rattle.job_rules.specs.Rules.{lanesOf}
 use Rattle.job.specs.declared.Job.{Job}
 use Rattle.job.specs.Calls as job
 use Rattle.job.proofs.Lengths.{plan-after}
-use Rattle.job_claim.specs.Calls.{Call, Take, Seen, seenTake, run, NoneRefused}
+use Rattle.job_claim.specs.Calls.{Call, Take, Seen, seenTake, run}
 use Rattle.group_parts.specs.Parts.{offset, partAt, putAt}
 use Rattle.group_parts.proofs.Cutting.{offset-next, part-cong, part-append, part-within, part-long, put-before, put-there, put-later, put-after}
 use Rattle.group_rules.specs.declared.Group.{Group}
 use Rattle.group_rules.specs.Group.{spare, jobAt, planAt, needs, total}
 use Rattle.group.specs.Calls.{withJobs, groupTaken, groupTakeOut, groupTakeWork}
 use Rattle.group_claim.specs.Calls.{GroupCall, TakeOf, GroupRun, groupStep, alone, called, takeNumber, takeOut}
+use Rattle.group_claim.specs.Claim.{AllGo}
 use Rattle.group_claim.proofs.Going.{TakeGoes, take-goes-group, take-alone-goes}
 use Rattle.group_claim.proofs.Alone.{same-run, take-length, take-alone, run-none, run-one}
 use Rattle.group_claim.proofs.Stepping.{Stepped}
@@ -215,10 +216,10 @@ module _ (r : GroupRun) (long : r .group .count ≤ length (r .group .jobs)) (k 
         ∙ run-one (planAt js k) (alone k r) (Take out (needs js k))
         ∙ take-alone (planAt js k) (alone k r) (needs js k) mine-long out)
 
-  unrefused-same : NoneRefused (planAt js k) (alone k r) (called k r (TakeOf k out lent))
-  unrefused-same =
+  all-go-same : AllGo (planAt js k) (alone k r) (called k r (TakeOf k out lent))
+  all-go-same =
       let all-lent = ap length (take-all (needs js k) mine (omega (arith, mine-long))) ∙ mine-long in
-      subst (λ (x : List Call). NoneRefused (planAt js k) (alone k r) x) (sym called-same)
+      subst (λ (x : List Call). AllGo (planAt js k) (alone k r) x) (sym called-same)
       (ap (λ (x : ℕ). job.takeNumber (jobAt js k) (length out) x) all-lent ∙ take-alone-goes g k (length out) (length lent-work) took, tt)
 
   -- ---- the others
@@ -229,9 +230,9 @@ module _ (r : GroupRun) (long : r .group .count ≤ length (r .group .jobs)) (k 
         same-run _ (alone i r) (job-other i d) (part-now i l ∙ part-other i l d) (seen-other i d)
         ∙ sym (ap (λ (x : List Call). run (planAt js i) (alone i r) x) (called-other i d) ∙ run-none (planAt js i) (alone i r))
 
-    unrefused-either : (eqb i k ≡ true) ⊎ (eqb i k ≡ false) → NoneRefused (planAt js i) (alone i r) (called i r (TakeOf k out lent))
-    unrefused-either (inl d) = rw (eqb-true i k d) unrefused-same
-    unrefused-either (inr d) = rw (called-other i d) tt
+    all-go-either : (eqb i k ≡ true) ⊎ (eqb i k ≡ false) → AllGo (planAt js i) (alone i r) (called i r (TakeOf k out lent))
+    all-go-either (inl d) = rw (eqb-true i k d) all-go-same
+    all-go-either (inr d) = rw (called-other i d) tt
 
   pub take-handed : Stepped r (groupStep r (TakeOf k out lent)) (TakeOf k out lent)
   take-handed = record {
@@ -242,6 +243,7 @@ module _ (r : GroupRun) (long : r .group .count ≤ length (r .group .jobs)) (k 
     rest-kept = rest;
     rows-in = 0;
     together = accepted-same;
+    beyond-kept = λ i l. job-other i (ne-eqb i k (λ d. omega (arith, took .named)));
     alone-is = λ i l. alone-either i l (test (eqb i k));
-    unrefused = λ i l. unrefused-either i l (test (eqb i k));
+    all-go = λ i l. all-go-either i l (test (eqb i k));
   }
