@@ -20,7 +20,8 @@ pub data GroupCall : Type 0 where
   OfferAll : List ℕ → ℕ → GroupCall
   TakeOf : ℕ → List ℕ → ℕ → GroupCall
 
--- The record and the work values as the last call left them, and what was counted of each job: from the calls and their answers, never from the record.
+-- The record and the work values as the last call left them, and what was counted of each job: from the calls and their answers. Only the length of a source row is
+-- read from the record, of the plan, which no call changes.
 pub record GroupRun : Type 0 where
   pub group : Group
   pub work : List ℕ

@@ -1,16 +1,18 @@
 -- THE THEOREM OF GROUPS: one claim about every list of a group's calls, to be read beside SCOPE, "Groups". proofs/Theorem.antt proves it. Assumes nothing.
 use Prim.Native.Nat.{ℕ, _+_, _*_, _-_, _/_, _%_, _≤_, _<_, min}
 use mathlib.Core.Path.{_≡_}
-use mathlib.Core.List.{List}
+use mathlib.Core.List.{List, [], _∷_}
 use lib.ListN.{length, take, drop}
 use Rattle.pixels.specs.Sizes.{rowBytes}
 use Rattle.job_rules.specs.declared.Plan.{Plan}
 use Rattle.job_rules.specs.Rules.{lanesOf, R}
-use Rattle.job_claim.specs.Calls.{begun, run, NoneRefused}
+use Rattle.job_claim.specs.Calls as alone-calls
+use Rattle.job_claim.specs.Calls.{Call, Offer, Take, Run, begun, step, run}
 use Rattle.job_claim.specs.Claim.{Claim, WrongRows}
 use Rattle.group_parts.specs.Parts.{partAt}
-use Rattle.group_rules.specs.Group.{planAt, needs, total, groupOf}
+use Rattle.group_rules.specs.Group.{spare, jobAt, planAt, needs, total, groupOf}
 use Rattle.group_rules.specs.Tests.{groupStartNumber}
+use Rattle.group.specs.Calls.{groupReady}
 use Rattle.group_claim.specs.Calls.{GroupCall, OfferAll, TakeOf, GroupRun, groupRun, groupStep, groupBegun, alone, callsOf, offerNumber, offerRows, takeNumber, takeOut}
 
 -- ---- the jobs of a group that was started
@@ -23,12 +25,22 @@ abbrev pub partIn : List Plan → ℕ → List ℕ → ℕ → List ℕ
 partIn plans count work i = partAt (needs (groupOf plans count .jobs)) i work
 
 -- ---- one job after a list of calls: everything that it would be alone
+
+-- no call of a job's list is turned away, and each offer accepts every row that it is lent
+abbrev pub AllGo : Plan → Run → List Call → Type 0
+AllGo p r [] = Unit {0}
+AllGo p r (Offer rows lent ∷ calls) =
+    (alone-calls.offerNumber r rows lent ≡ 0)
+    × (rowBytes (lanesOf p) (p .source .width) * alone-calls.offerRows r rows lent ≡ length rows)
+    × AllGo p (step p r (Offer rows lent)) calls
+AllGo p r (Take out lent ∷ calls) = (alone-calls.takeNumber r out lent ≡ 0) × AllGo p (step p r (Take out lent)) calls
+
 pub record AsAlone (plans : List Plan) (count : ℕ) (work : List ℕ) (calls : List GroupCall) (i : ℕ) : Type 0 where
   -- its record, its part of the work values and the rows that it handed out are those of the job alone, started with its own part, after its own list of calls
   pub same : alone i (groupRun (groupBegun plans count work) calls)
       ≡ run (planIn plans count i) (begun (planIn plans count i) (partIn plans count work i)) (callsOf i (groupBegun plans count work) calls)
-  -- which turns none of them away
-  pub none-refused : NoneRefused (planIn plans count i) (begun (planIn plans count i) (partIn plans count work i)) (callsOf i (groupBegun plans count work) calls)
+  -- all of which go through
+  pub all-go : AllGo (planIn plans count i) (begun (planIn plans count i) (partIn plans count work i)) (callsOf i (groupBegun plans count work) calls)
   -- so that all of demand 3 holds of it: rows ready, calls that succeed, bytes and flag, the distance to the exact mean
   pub claim : Claim (planIn plans count i) (partIn plans count work i) (alone i (groupRun (groupBegun plans count work) calls))
 
@@ -74,6 +86,9 @@ pub record Smallest (plans : List Plan) (count : ℕ) (r : GroupRun) (lent remai
   pub with-none : ((i : ℕ) → 0 < i → NoneReady plans count r (r .seen 0 .accepted + i)) → rows ≡ min lent remaining
 
 pub record GroupClaim (plans : List Plan) (count : ℕ) (work : List ℕ) (r : GroupRun) : Type 0 where
+  -- the record holds as many jobs as were asked for, and what stands beyond them stays
+  pub count-stays : r .group .count ≡ count
+  pub beyond-stays : (k : ℕ) → count ≤ k → jobAt (r .group .jobs) k ≡ spare
   -- all jobs have accepted equally many rows
   pub together : (i : ℕ) → i < count → r .seen i .accepted ≡ r .seen 0 .accepted
   -- the next offer with right buffers accepts exactly when no job has a row ready and source rows remain, and how many; it is otherwise 7 while one is ready, else 8
@@ -85,6 +100,9 @@ pub record GroupClaim (plans : List Plan) (count : ℕ) (work : List ℕ) (r : G
   pub offer-ready : (rows : List ℕ) (lent : ℕ) → RightOffer plans count r rows lent → SomeReady plans count r (r .seen 0 .accepted) → offerNumber r rows lent ≡ 7
   pub offer-all : (rows : List ℕ) (lent : ℕ) → RightOffer plans count r rows lent → NoneReady plans count r (r .seen 0 .accepted)
       → planIn plans count 0 .source .height ≤ r .seen 0 .accepted → offerNumber r rows lent ≡ 8
+  -- the rows ready that the group tells of job k, and those taken, are R(accepted); of a job that it lacks it tells none
+  pub ready-told : (k : ℕ) → k < count → groupReady (r .group) k + r .seen k .taken ≡ R (planIn plans count k) (r .seen k .accepted)
+  pub ready-lacking : (k : ℕ) → count ≤ k → groupReady (r .group) k ≡ 0
   -- a take of job k with right buffers succeeds exactly when that job has a row ready, and is otherwise 9; of a job that the group lacks it is 13
   pub take-goes : (k : ℕ) (out : List ℕ) (lent : ℕ) → k < count → RightTake plans count r k out lent → Ready plans count r (r .seen k .accepted) k → takeNumber r k out lent ≡ 0
   pub take-none : (k : ℕ) (out : List ℕ) (lent : ℕ) → k < count → RightTake plans count r k out lent → R (planIn plans count k) (r .seen k .accepted) ≤ r .seen k .taken → takeNumber r k out lent ≡ 9
