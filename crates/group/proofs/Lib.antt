@@ -1,0 +1,4 @@
+pub mod Members
+pub mod Kept
+pub mod Counted
+pub mod Going
