@@ -56,4 +56,4 @@ pub use image::{Dimensions, ImageRef, MAX_DIMENSION, MAX_LANES, PixelLayout, app
 pub use job::{Job, Kind};
 pub use planes::Planes;
 #[cfg(feature = "std")]
-pub use preview::{IntoInnerError, Preview, PreviewError, PreviewWriter};
+pub use preview::{IntoInnerError, Preview, PreviewError, PreviewWriter, WriterError};
