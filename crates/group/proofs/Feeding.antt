@@ -25,11 +25,13 @@ use Rattle.group_parts.proofs.Cutting.{offset-zero, offset-suc, part-long, each
 use Rattle.group_rules.specs.declared.Group.{Group}
 use Rattle.group_rules.specs.Group.{jobAt, planAt, eachJob, needs, total, groupLawful}
 use Rattle.group_rules.specs.Tests.{groupOfferNumber}
+use Rattle.group_rules.proofs.Jobs.{jobs-none, jobs-next}
+use Rattle.group_rules.proofs.Lawful.{LawfulGroup, lawful-group, lanes-here}
+use Rattle.group_rules.proofs.Going.{GroupOfferGoes, group-offer-goes}
 use Rattle.group.specs.Inner.{RowForAll}
 use Rattle.group.specs.Calls.{groupCount, withJobs}
-use Rattle.group.proofs.Members.{LawfulGroup, lawful-group, lanes-here, jobs-none, jobs-next}
 use Rattle.group.proofs.Kept.{accepted-length, fed-none, fed-suc, fed-length}
-use Rattle.group.proofs.Going.{Goes, part-small, part-fits, in-lent, in-source, same-stride}
+use Rattle.group.proofs.Going.{legal-offer, part-small, part-fits, in-lent, in-source, same-stride}
 
 -- ---- a source row for every job
 pub record Feeding (g : Group) (s : ℕ) (row work₀ work : List ℕ) (at i : ℕ) : Type 0 where
@@ -105,8 +107,11 @@ rows-first g c rows w = record {
   work-is = sym (each-kept (needs (g .jobs)) (λ i. fed (planAt (g .jobs) i) rows (jobAt (g .jobs) 0 .accepted) 0) (λ i x. fed-none (planAt (g .jobs) i) rows _ x) (g .count) w);
 }
 
-module _ {g : Group} {c : ℕ} {rows work₀ work : List ℕ} {r : ℕ} (o : Goes g (length rows) (length work₀)) (is : c ≡ groupCount g (length rows)) (v : Rows g c rows work₀ work r) (l : r < c)
+module _ {g : Group} {c : ℕ} {rows work₀ work : List ℕ} {r : ℕ} (goes : groupOfferNumber g (length rows) (length work₀) ≡ 0) (is : c ≡ groupCount g (length rows)) (v : Rows g c rows work₀ work r) (l : r < c)
     (stride : ℕ) (h : stride ≡ rowBytes (lanesOf (planAt (g .jobs) 0)) (planAt (g .jobs) 0 .source .width)) where
+  abbrev o : GroupOfferGoes g (length rows) (length work₀)
+  o = group-offer-goes g (length rows) (length work₀) goes
+
   abbrev js : List Job
   js = g .jobs
 
@@ -120,7 +125,7 @@ module _ {g : Group} {c : ℕ} {rows work₀ work : List ℕ} {r : ℕ} (o : Goe
       omega (arith, m, q)
 
   pub row-number : k + r < 16384
-  row-number = omega (arith, in-source g (length rows) (length work₀) o, o .lawful .member 0 (o .lawful .some) .rules .sizes .source-height .most)
+  row-number = omega (arith, in-source g (length rows) (length work₀) o, o .group .member 0 (o .group .some) .rules .sizes .source-height .most)
 
   -- the row as the code lends it
   abbrev row : List ℕ
@@ -137,7 +142,7 @@ module _ {g : Group} {c : ℕ} {rows work₀ work : List ℕ} {r : ℕ} (o : Goe
       rw e (row-part (lanesOf (planAt js i)) rows (planAt js i .source .width) r)
 
   pub row-asks : RowForAll g row work
-  row-asks = record { lawful = o .legal; long = row-long ∙ h; room = omega (arith, o .room, v .long) }
+  row-asks = record { lawful = legal-offer g (length rows) (length work₀) goes; long = row-long ∙ h; room = omega (arith, o .room, v .long) }
 
   abbrev before : ℕ → List ℕ → List ℕ
   before i = fed (planAt js i) rows k r

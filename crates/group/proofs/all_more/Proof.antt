@@ -1,7 +1,7 @@
 use mathlib.Core.Path.{_≡_}
 use Prim.Native.Nat.{_-_}
 use native.Mathlib.Omega.{arith}
-use Rattle.group.proofs.Members.{lawful-group}
+use Rattle.group_rules.proofs.Lawful.{lawful-group}
 use Rattle.group.proofs.Feeding.{Advancing, advancing-first, advancing-more, advancing-done}
 use borrow.Author.Needs.{needs}
 use Rattle.group.proofs.all_more.Statement.{statement}

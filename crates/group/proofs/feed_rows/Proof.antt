@@ -1,7 +1,6 @@
 use mathlib.Core.Path.{_≡_}
 use Prim.Native.Nat.{_-_}
 use native.Mathlib.Omega.{arith}
-use Rattle.group.proofs.Going.{goes}
 use Rattle.group.proofs.Feeding.{Rows, rows-first, row-lent, row-number, row-asks, rows-more}
 use borrow.Author.Needs.{needs}
 use Rattle.group.proofs.feed_rows.Statement.{statement}
@@ -26,13 +25,13 @@ cast-at : tie.Need-cast-at Inv-loop μ-loop
 cast-at c = search needs
 
 mul-at : tie.Need-mul-at Inv-loop μ-loop
-mul-at c = omega (arith, row-lent (goes _ _ _ (c .before .before .before .before .before .before .pre .0)) (c .before .before .before .before .before .before .pre .1) (c .before .loop .inv) (omega arith) _ (c .before .before .row-bytes .ensures), c .before .before .before .before .before .before .good .1 .1 .0 .0)
+mul-at c = omega (arith, row-lent ((c .before .before .before .before .before .before .pre .0)) (c .before .before .before .before .before .before .pre .1) (c .before .loop .inv) (omega arith) _ (c .before .before .row-bytes .ensures), c .before .before .before .before .before .before .good .1 .1 .0 .0)
 
 add-feed-row : tie.Need-add-feed-row Inv-loop μ-loop
-add-feed-row c = omega (arith, row-number (goes _ _ _ (c .before .before .before .before .before .before .before .pre .0)) (c .before .before .before .before .before .before .before .pre .1) (c .before .before .loop .inv) (omega arith) _ (c .before .before .before .row-bytes .ensures))
+add-feed-row c = omega (arith, row-number ((c .before .before .before .before .before .before .before .pre .0)) (c .before .before .before .before .before .before .before .pre .1) (c .before .before .loop .inv) (omega arith) _ (c .before .before .before .row-bytes .ensures))
 
 add-feed-row-2 : tie.Need-add-feed-row-2 Inv-loop μ-loop
-add-feed-row-2 c = omega (arith, row-lent (goes _ _ _ (c .before .before .before .before .before .before .before .pre .0)) (c .before .before .before .before .before .before .before .pre .1) (c .before .before .loop .inv) (omega arith) _ (c .before .before .before .row-bytes .ensures), c .before .before .before .before .before .before .before .good .1 .1 .0 .0)
+add-feed-row-2 c = omega (arith, row-lent ((c .before .before .before .before .before .before .before .pre .0)) (c .before .before .before .before .before .before .before .pre .1) (c .before .before .loop .inv) (omega arith) _ (c .before .before .before .row-bytes .ensures), c .before .before .before .before .before .before .before .good .1 .1 .0 .0)
 
 sub-feed-row : tie.Need-sub-feed-row Inv-loop μ-loop
 sub-feed-row c = search needs
@@ -41,10 +40,10 @@ part-feed-row-start : tie.Need-part-feed-row-start Inv-loop μ-loop
 part-feed-row-start c = search needs
 
 part-feed-row-end : tie.Need-part-feed-row-end Inv-loop μ-loop
-part-feed-row-end c = row-lent (goes _ _ _ (c .before .before .before .before .before .before .before .pre .0)) (c .before .before .before .before .before .before .before .pre .1) (c .before .before .loop .inv) (omega arith) _ (c .before .before .before .row-bytes .ensures)
+part-feed-row-end c = row-lent ((c .before .before .before .before .before .before .before .pre .0)) (c .before .before .before .before .before .before .before .pre .1) (c .before .before .loop .inv) (omega arith) _ (c .before .before .before .row-bytes .ensures)
 
 feed-row-requires : tie.Need-feed-row-requires Inv-loop μ-loop
-feed-row-requires c κs = row-asks (goes _ _ _ (c .before .before .before .before .before .before .before .before .before .pre .0)) (c .before .before .before .before .before .before .before .before .before .pre .1) (c .before .before .before .before .loop .inv) (omega arith) _ (c .before .before .before .before .before .row-bytes .ensures)
+feed-row-requires c κs = row-asks ((c .before .before .before .before .before .before .before .before .before .pre .0)) (c .before .before .before .before .before .before .before .before .before .pre .1) (c .before .before .before .before .loop .inv) (omega arith) _ (c .before .before .before .before .before .row-bytes .ensures)
 
 add-r : tie.Need-add-r Inv-loop μ-loop
 add-r c = search needs
@@ -53,7 +52,7 @@ loop-less : tie.Need-loop-less Inv-loop μ-loop
 loop-less c = search needs
 
 loop-again : tie.Need-loop-again Inv-loop μ-loop
-loop-again c = rows-more (goes _ _ _ (c .before .before .before .before .before .before .before .before .before .before .before .before .pre .0)) (c .before .before .before .before .before .before .before .before .before .before .before .before .pre .1) (c .before .before .before .before .before .before .before .loop .inv) (omega arith) _ (c .before .before .before .before .before .before .before .before .row-bytes .ensures) _ (c .before .before .feed-row .kept .1 .1 .1 .0) (c .before .before .feed-row .ensures)
+loop-again c = rows-more ((c .before .before .before .before .before .before .before .before .before .before .before .before .pre .0)) (c .before .before .before .before .before .before .before .before .before .before .before .before .pre .1) (c .before .before .before .before .before .before .before .loop .inv) (omega arith) _ (c .before .before .before .before .before .before .before .before .row-bytes .ensures) _ (c .before .before .feed-row .kept .1 .1 .1 .0) (c .before .before .feed-row .ensures)
 
 same-length : tie.Need-same-length Inv-loop μ-loop
 same-length c = c .before .loop .inv .long
