@@ -23,7 +23,7 @@ use Rattle.job.proofs.RowIn.{row-in}
 use Rattle.group_parts.specs.Parts.{offset, partAt, putAt, eachPart}
 use Rattle.group_parts.proofs.Cutting.{offset-zero, offset-suc, part-long, each-none, each-more, each-kept, each-length, each-same, each-twice}
 use Rattle.group_rules.specs.declared.Group.{Group}
-use Rattle.group_rules.specs.Group.{jobAt, planAt, eachJob, needs, total, groupLawful}
+use Rattle.group_rules.specs.Group.{groupLimit, jobAt, planAt, eachJob, needs, total}
 use Rattle.group_rules.specs.Tests.{groupOfferNumber}
 use Rattle.group_rules.proofs.Jobs.{jobs-none, jobs-next}
 use Rattle.group_rules.proofs.Lawful.{LawfulGroup, lawful-group, lanes-here}
@@ -55,7 +55,7 @@ module _ {g : Group} {s : ℕ} {row work₀ work : List ℕ} {at i : ℕ} (a : R
   facts : LawfulGroup g
   facts = lawful-group g (a .lawful)
 
-  pub within : i < 8
+  pub within : i < groupLimit
   within = omega (arith, facts .few)
 
   module _ (half : ℕ) (h : half ≡ rowBytes (lanesOf p) (p .target .width)) where
@@ -172,8 +172,8 @@ module _ {g : Group} {c : ℕ} {rows work₀ work : List ℕ} {r : ℕ} (goes : 
         ∙ ap (λ (z : List ℕ). eachPart (needs js) this (g .count) z) (v .work-is)
         ∙ each-twice (needs js) this before this-keeps before-keeps (g .count) work₀ (o .room)
         ∙ each-same (needs js) (λ i x. this i (before i x)) after (λ i x q. this-keeps i (before i x) (before-keeps i x q)) after-keeps (g .count) work₀ (o .room)
-          (λ i b. let x : List ℕ = partAt (needs js) i work₀ in
-            ap (λ (z : List ℕ). rowAccepted (planAt js i) z (k + r) (before i x)) (row-is i b) ∙ sym (fed-suc (planAt js i) rows k r x)));
+        (λ i b. let x : List ℕ = partAt (needs js) i work₀ in
+        ap (λ (z : List ℕ). rowAccepted (planAt js i) z (k + r) (before i x)) (row-is i b) ∙ sym (fed-suc (planAt js i) rows k r x)));
   }
 
 -- ---- all records with c rows more

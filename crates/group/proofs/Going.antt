@@ -168,7 +168,7 @@ module _ (g : Group) (rows : List ℕ) (w : ℕ) (o : GroupOfferGoes g (length r
       (λ i x h. offer-length (jobAt jobs i) (fedRows g rows) x ∙ h)
       (g .count) work fits
       (λ i l. sym (alone-fed i l (partAt (needs jobs) i work)
-        (part-long (offset (needs jobs) i) (needs jobs i) work (omega (arith, offset-next (needs jobs) i (g .count) l)))))
+      (part-long (offset (needs jobs) i) (needs jobs i) work (omega (arith, offset-next (needs jobs) i (g .count) l)))))
 
 -- ---- take, of job i
 

@@ -26,7 +26,9 @@ ready-requires : tie.Need-ready-requires
 ready-requires c κs = search needs
 
 returns-3 : tie.Need-returns-3
-returns-3 c = let a = c .before .before .before .before .before .args in ready-job (a .t1) (a .job) _ (c .before .before .before .before .check-group .ensures) (c .before .before .before .if1 .left) (c .before .before .if2 .left) _ (c .ready .ensures)
+returns-3 c =
+    let a = c .before .before .before .before .before .args in
+    ready-job (a .t1) (a .job) _ (c .before .before .before .before .check-group .ensures) (c .before .before .before .if1 .left) (c .before .before .if2 .left) _ (c .ready .ensures)
 
 pub group-ready-spec : {M : Type 1} → statement M
 group-ready-spec =

@@ -15,7 +15,9 @@ enum-known-checked : tie.Need-enum-known-checked
 enum-known-checked c = search needs
 
 returns : tie.Need-returns
-returns c = let a = c .before .before .before .before .before .before .args in offer-refused (a .g) (a .rows .now) (a .work .now) (c .before .checked .given .0 .0) (sym (rw (c .before .checked .given .1) at (c .before .before .before .check-group-offer .ensures)))
+returns c =
+    let a = c .before .before .before .before .before .before .args in
+    offer-refused (a .g) (a .rows .now) (a .work .now) (c .before .checked .given .0 .0) (sym (rw (c .before .checked .given .1) at (c .before .before .before .check-group-offer .ensures)))
 
 enum-told : tie.Need-enum-told
 enum-told c = search needs

@@ -22,7 +22,9 @@ take-part-requires c κs =
     (z, place-here _ _ _ z (rw (c .before .before .before .placed2 .given .1) at (c .before .before .before .before .before .check-group-take .ensures .1)))
 
 returns : tie.Need-returns
-returns c = let a = c .before .before .before .before .before .before .args in take-refused (a .g) (a .job) (a .out .now) (a .work .now) (c .before .placed .given .0 .0) (sym (rw (c .before .placed .given .1) at (c .before .before .before .check-group-take .ensures .0)))
+returns c =
+    let a = c .before .before .before .before .before .before .args in
+    take-refused (a .g) (a .job) (a .out .now) (a .work .now) (c .before .placed .given .0 .0) (sym (rw (c .before .placed .given .1) at (c .before .before .before .check-group-take .ensures .0)))
 
 same-length : tie.Need-same-length
 same-length c = search needs
