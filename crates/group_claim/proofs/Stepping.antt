@@ -101,7 +101,7 @@ module _ (r : GroupRun) (k : ℕ) (out : List ℕ) (lent : ℕ) (e : eqb (takeNu
   take-same = record {
     group = take-group-same;
     work = ap (λ (z : List ℕ). z ++ drop lent (r .work)) take-work-same ∙ take-append-drop lent (r .work);
-    seen = λ i. take-seen-none (eqb i k) _ (r .seen i) _;
+    seen = λ i. take-seen-none _ _ (r .seen i) _;
   }
 
   take-called-none : (i : ℕ) → called i r (TakeOf k out lent) ≡ []
