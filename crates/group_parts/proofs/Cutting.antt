@@ -193,6 +193,17 @@ module _ (n : ℕ → ℕ) (f g : ℕ → List ℕ → List ℕ)
       ∙ each-rest n g g-keeps k w room
       ∙ sym (each-rest n both both-keeps k w room))
 
+-- changes that change nothing
+pub each-kept : (n : ℕ → ℕ) (f : ℕ → List ℕ → List ℕ) → ((i : ℕ) (x : List ℕ) → f i x ≡ x) → (k : ℕ) (w : List ℕ) → eachPart n f k w ≡ w
+each-kept n f h zero w = each-none n f w
+each-kept n f h (suc k) w =
+    let v : List ℕ = eachPart n f k w in
+    each-open n f k w
+    ∙ ap (λ (z : List ℕ). putAt (offset n k) (n k) v z) (h k (partAt n k v))
+    ∙ ap (λ (z : List ℕ). take (offset n k) v ++ z) (take-append-drop (n k) (drop (offset n k) v))
+    ∙ take-append-drop (offset n k) v
+    ∙ each-kept n f h k w
+
 -- ---- the same lengths, cut alike
 pub offset-cong : (n m : ℕ → ℕ) → ((k : ℕ) → n k ≡ m k) → (i : ℕ) → offset n i ≡ offset m i
 offset-cong n m h zero = offset-zero n ∙ sym (offset-zero m)
