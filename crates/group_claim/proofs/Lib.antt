@@ -1,5 +1,3 @@
-pub mod Jobs
-pub mod Going
 pub mod Alone
 pub mod Stepping
 pub mod OfferSteps

@@ -19,12 +19,13 @@ use Rattle.group_parts.specs.Parts.{offset, partAt, eachPart}
 use Rattle.group_parts.proofs.Cutting.{offset-next, part-cong, part-append, part-within, part-long, each-part, each-length, each-rest}
 use Rattle.group_rules.specs.declared.Group.{Group}
 use Rattle.group_rules.specs.Group.{jobAt, planAt, eachJob, needs, total}
+use Rattle.group_rules.proofs.Jobs.{jobs-long, job-beyond, job-changed}
 use Rattle.group.specs.Calls.{groupCount, groupOfferRows, fedRows, withJobs, groupOffered, groupOfferWork}
+use Rattle.group.proofs.Kept.{offer-length}
+use Rattle.group.proofs.Going.{Goes, goes, fed-long, same-stride, alone-goes, alone-count}
 use Rattle.group_claim.specs.Calls.{GroupCall, OfferAll, GroupRun, groupStep, alone, called, offerNumber, offerRows}
 use Rattle.group_claim.specs.Claim.{AllGo}
-use Rattle.group_claim.proofs.Jobs.{jobs-long, job-beyond, job-changed}
-use Rattle.group_claim.proofs.Going.{Goes, goes, fed-long, alone-goes, alone-count, bytes-same}
-use Rattle.group_claim.proofs.Alone.{same-run, offer-length, offer-rows-is, offer-job-is, seen-same, offer-alone, run-one}
+use Rattle.group_claim.proofs.Alone.{same-run, offer-rows-is, offer-job-is, seen-same, offer-alone, run-one}
 use Rattle.group_claim.proofs.Stepping.{Stepped}
 
 module _ (r : GroupRun) (long : r .group .count ≤ length (r .group .jobs)) (rows : List ℕ) (lent : ℕ) (e : offerNumber r rows lent ≡ 0) where
@@ -132,7 +133,7 @@ module _ (r : GroupRun) (long : r .group .count ≤ length (r .group .jobs)) (ro
         let theirs : ℕ = rowBytes (lanesOf (planAt js 0)) (planAt js 0 .source .width) * rows-in in
         next-seen i
         ∙ seen-same (planAt js i) (r .seen i) rows fed rows-in (job.offerRows (jobAt js i) (length fed) (needs js i)) (sym all-rows)
-          (sym (take-take mine theirs rows (omega (arith, bytes-same g rows (length lent-work) went i l))))
+          (sym (take-take mine theirs rows (omega (arith, ap (λ (x : ℕ). x * rows-in) (same-stride g rows (length lent-work) went i l)))))
 
     alone-then : alone i next ≡ run (planAt js i) (alone i r) (called i r (OfferAll rows lent))
     alone-then =
@@ -146,7 +147,7 @@ module _ (r : GroupRun) (long : r .group .count ≤ length (r .group .jobs)) (ro
     lent-all = ap length (take-all (needs js i) (partAt (needs js) i (r .work)) (omega (arith, part-whole))) ∙ part-whole
 
     all-bytes : rowBytes (lanesOf (planAt js i)) (planAt js i .source .width) * rows-in ≡ length fed
-    all-bytes = bytes-same g rows (length lent-work) went i l ∙ sym (fed-long g rows (length lent-work) went)
+    all-bytes = ap (λ (x : ℕ). x * rows-in) (same-stride g rows (length lent-work) went i l) ∙ sym (fed-long g rows (length lent-work) went)
 
     all-go : AllGo (planAt js i) (alone i r) (called i r (OfferAll rows lent))
     all-go =

@@ -23,10 +23,9 @@ use Rattle.job_claim.proofs.Theorem.{demand-3}
 use Rattle.group_rules.specs.declared.Group.{Group}
 use Rattle.group_rules.specs.Group.{groupLimit, spare, jobAt, planAt, every, some, total, alike, differing, tooMany, groupLawful, groupOf}
 use Rattle.group_rules.specs.Tests.{readyAt, someReady, groupStartNumber}
-use Rattle.group.specs.Calls.{mostRows}
+use Rattle.group_rules.proofs.Alike.{jobs-there}
 use Rattle.group_claim.specs.Calls.{GroupCall, GroupRun, groupRun, groupBegun, alone, callsOf}
 use Rattle.group_claim.specs.Claim.{planIn, partIn, AllGo, AsAlone}
-use Rattle.group_claim.proofs.Jobs.{every-all, some-none, none-some, some-one, Together, together-of}
 use Rattle.group_claim.proofs.Projecting.{Projected, projects, Kept, keeps, total-kept}
 use Rattle.group_claim.proofs.Starting.{Starts, starts, began-group, began-count, began-plan, began-beyond, began-long, began-work-long, began-rest, part-lent, start-accepted, began-alone}
 
@@ -99,7 +98,7 @@ standing plans count work e calls =
     ∙ total-kept (first .group .jobs) (groupOf plans count .jobs) (began-plan plans count work e) count in
     record {
       few = o .few;
-      some-job = together-of (groupOf plans count .jobs) count (o .same-source) .some-job;
+      some-job = omega (arith, jobs-there (groupOf plans count .jobs) count (o .same-source));
       count-is = k .count-kept ∙ began-count plans count work e;
       plan-is = λ i. k .plans-kept i ∙ began-plan plans count work e i;
       beyond-is = λ i l. k .beyond-kept i (omega (arith, began-count plans count work e)) ∙ began-beyond plans count work e i l;

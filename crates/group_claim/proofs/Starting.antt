@@ -26,10 +26,11 @@ use Rattle.group_parts.proofs.Cutting.{offset-next, part-append, part-long}
 use Rattle.group_rules.specs.declared.Group.{Group}
 use Rattle.group_rules.specs.Group.{groupLimit, spare, jobAt, planAt, givenAt, needs, total, differing, formed, formedBy, looked, freshJobs, groupOf}
 use Rattle.group_rules.specs.Tests.{startCauses, groupStartNumber}
+use Rattle.group_rules.proofs.Jobs.{some-none}
+use Rattle.group_rules.proofs.Forming.{fresh-none, fresh-long, fresh-at, formed-so}
 use Rattle.group_start.specs.Start.{groupStarted, groupStartWork}
 use Rattle.group_claim.specs.Calls.{GroupRun, groupBegun, alone}
 use Rattle.group_claim.specs.Claim.{planIn, partIn}
-use Rattle.group_claim.proofs.Jobs.{some-none}
 
 -- ---- the jobs that a start forms
 
@@ -40,37 +41,17 @@ getD-alike (suc n) zero = refl
 getD-alike (suc n) (suc k) = getD-alike n k
 
 module _ (plans : List Plan) where
-  fresh-zero : freshJobs plans 0 ≡ replicate groupLimit spare
-  unfolding freshJobs
-  fresh-zero = refl
-
   fresh-next : (i : ℕ) → freshJobs plans (suc i) ≡ set (freshJobs plans i) i (fresh (formed (givenAt plans i)))
   unfolding freshJobs
   fresh-next i = refl
 
-  pub fresh-long : (n : ℕ) → length (freshJobs plans n) ≡ groupLimit
-  fresh-long zero = ap length fresh-zero ∙ length-replicate groupLimit spare
-  fresh-long (suc n) = ap length (fresh-next n) ∙ length-set (freshJobs plans n) n (fresh (formed (givenAt plans n))) ∙ fresh-long n
-
-  pub fresh-at : (n k : ℕ) → n ≤ groupLimit → k < n → jobAt (freshJobs plans n) k ≡ fresh (formed (givenAt plans k))
-  fresh-at zero k h l = absurd (omega arith)
-  fresh-at (suc n) k h l =
-      ap (λ (x : List Job). jobAt x k) (fresh-next n)
-      ∙ ⊎-elim
-        (λ q. rw q (getD-set-same (freshJobs plans n) n (fresh (formed (givenAt plans n))) spare (rw (fresh-long n) (omega arith))))
-        (λ m. getD-set-other (freshJobs plans n) n k (fresh (formed (givenAt plans n))) spare (omega arith) ∙ fresh-at n k (omega arith) m)
-        (eq-or-lt-of-le (le-of-suc-le-suc l))
-
+  -- none stands beyond them
   pub fresh-beyond : (n k : ℕ) → n ≤ k → jobAt (freshJobs plans n) k ≡ spare
-  fresh-beyond zero k l = ap (λ (x : List Job). jobAt x k) fresh-zero ∙ getD-alike groupLimit k
+  fresh-beyond zero k l = ap (λ (x : List Job). jobAt x k) (fresh-none plans) ∙ getD-alike groupLimit k
   fresh-beyond (suc n) k l =
       ap (λ (x : List Job). jobAt x k) (fresh-next n)
       ∙ getD-set-other (freshJobs plans n) n k (fresh (formed (givenAt plans n))) spare (omega arith)
       ∙ fresh-beyond n k (omega arith)
-
-formed-by : (kind : Kind) (p : Plan) → Formed (formedBy kind p)
-formed-by Picture p = inl refl
-formed-by Plane p = inr refl
 
 abbrev zeros : ℕ → List ℕ
 zeros n = replicate n 0
@@ -110,7 +91,7 @@ starts plans count w e =
       room = subst (λ (n : ℕ). total js n ≤ w) all (ltb-false w (total js (looked count)) (q .1 .1 .1 .1 .1 .0));
       same-source = ap (λ (n : ℕ). differing js n) (sym all) ∙ q .1 .1 .1 .0;
       job-is = λ i l. at i l ∙ ap fresh (sym (ap (λ (j : Job). j .plan) (at i l)));
-      formed-so = λ i l. subst Formed (sym (ap (λ (j : Job). j .plan) (at i l))) (formed-by (givenAt plans i .kind) (givenAt plans i));
+      formed-so = λ i l. subst Formed (sym (ap (λ (j : Job). j .plan) (at i l))) (formed-so (givenAt plans i));
       accepted = λ i l.
           let m : i < looked count = omega arith in
           let sizes = some-none (λ i. badSizes (planAt js i .source) (planAt js i .crop) (planAt js i .target)) (looked count) i (q .0) m in

@@ -79,6 +79,10 @@ module _ (r : GroupRun) (rows : List ℕ) (lent : ℕ) (e : eqb (offerNumber r r
   pub offer-dropped : Stepped r (groupStep r (OfferAll rows lent)) (OfferAll rows lent)
   offer-dropped = stays r (groupStep r (OfferAll rows lent)) (OfferAll rows lent) offer-same called-none
 
+either-same : (b : Bool) (s : Seen) → cond b s s ≡ s
+either-same true s = refl
+either-same false s = refl
+
 module _ (r : GroupRun) (k : ℕ) (out : List ℕ) (lent : ℕ) (e : eqb (takeNumber r k out lent) 0 ≡ false) where
   take-group-same : groupTaken (r .group) k (length out) (take lent (r .work)) ≡ r .group
   unfolding groupTaken
@@ -92,16 +96,16 @@ module _ (r : GroupRun) (k : ℕ) (out : List ℕ) (lent : ℕ) (e : eqb (takeNu
   unfolding groupTakeOut
   take-out-same = simp e
 
-  take-seen-none : (b f : Bool) (s : Seen) (o : List ℕ) → cond b (seenTake s (takeNumber r k out lent) o f) s ≡ s
-  take-seen-none true f s o = simp e
-  take-seen-none false f s o = refl
+  take-seen-same : (i : ℕ) → groupStep r (TakeOf k out lent) .seen i ≡ r .seen i
+  unfolding groupStep
+  take-seen-same i = simp (e, either-same)
 
   pub take-same : Same (groupStep r (TakeOf k out lent)) r
   unfolding groupStep
   take-same = record {
     group = take-group-same;
     work = ap (λ (z : List ℕ). z ++ drop lent (r .work)) take-work-same ∙ take-append-drop lent (r .work);
-    seen = λ i. take-seen-none _ _ (r .seen i) _;
+    seen = take-seen-same;
   }
 
   take-called-none : (i : ℕ) → called i r (TakeOf k out lent) ≡ []
