@@ -2,11 +2,11 @@
 use Prim.Native.Nat.{ℕ, _+_, _-_, _/_, _%_, _≤_, _<_, min}
 use mathlib.Core.Path.{_≡_, refl, sym, _∙_, ap, ap₂, subst}
 use mathlib.Core.List.{List}
-use mathlib.Core.Bool.{Bool, true, false, not, _||_, _&&_, or-true, true≢false}
+use mathlib.Core.Bool.{Bool, true, false, not, _&&_, or-true, true≢false}
 use mathlib.Core.Logic.{_⊎_, inl, inr}
 use native.Mathlib.Omega.{arith}
 use lib.Dec.{eqb, leb, ltb}
-use lib.ListN.{length, take, drop}
+use lib.ListN.{length, take}
 use borrow.Author.Tests.{eq-eqb, ne-eqb, le-ltb, lt-ltb, le-leb, lt-leb, eqb-true, eqb-false}
 use Rattle.arithmetic.proofs.Orders.{le-or-lt}
 use Rattle.pixels.specs.Sizes.{rowBytes}
@@ -17,7 +17,7 @@ use Rattle.job_rules.specs.declared.Plan.{Plan}
 use Rattle.job_rules.specs.Rules.{lanesOf, R, badRows}
 use Rattle.job_rules.proofs.Rules.{rules-good}
 use Rattle.job.specs.declared.Job.{Job}
-use Rattle.job.specs.Record.{lawful, readyOf, Rules}
+use Rattle.job.specs.Record.{lawful, readyOf}
 use Rattle.job.specs.Calls as job
 use Rattle.job.proofs.Ready.{ready-some}
 use Rattle.job.proofs.Views.{whole-good}
@@ -29,8 +29,8 @@ use Rattle.group_rules.specs.Tests.{readyAt, someReady, lacks, groupOfferCauses
 use Rattle.group_rules.proofs.Jobs.{every-of, some-none, some-of, some-found}
 use Rattle.group.specs.Calls.{mostRows, groupCount, groupOfferRows, groupReady}
 use Rattle.group.proofs.Counted.{count-most, count-some, count-stop, count-low}
-use Rattle.group_claim.specs.Calls.{GroupRun, OfferAll, TakeOf, groupStep, offerNumber, offerRows, takeNumber, takeOut}
-use Rattle.group_claim.specs.Claim.{planIn, RightOffer, RightTake, ShortWork, Ready, NoneReady, SomeReady, Smallest, GroupClaim}
+use Rattle.group_claim.specs.Calls.{GroupRun, offerNumber, offerRows, takeNumber}
+use Rattle.group_claim.specs.Claim.{planIn, RightOffer, ShortWork, Ready, NoneReady, SomeReady, Smallest, GroupClaim}
 use Rattle.group_claim.proofs.Stepping.{offer-same, take-same, take-out-same}
 use Rattle.group_claim.proofs.Projecting.{total-kept}
 use Rattle.group_claim.proofs.Standing.{counted, Standing}

@@ -1,8 +1,8 @@
 -- A group's offer that accepts rows: each job's own offer of exactly those rows. Assumes nothing.
 use Prim.Native.Nat.{ℕ, _+_, _*_, _≤_, _<_, min}
-use mathlib.Core.Path.{_≡_, refl, sym, _∙_, ap, subst}
+use mathlib.Core.Path.{_≡_, sym, _∙_, ap, subst}
 use mathlib.Core.List.{List, [], _∷_, _++_}
-use mathlib.Core.Logic.{_⊎_, inl, inr, ⊎-elim}
+use mathlib.Core.Logic.{_⊎_, ⊎-elim}
 use native.Mathlib.Omega.{arith}
 use lib.ListN.{length, take, drop, length-take, take-append-drop}
 use lib.Seq.{take-all, take-take, length-front, drop-append-le}
@@ -23,7 +23,7 @@ use Rattle.group_rules.proofs.Jobs.{jobs-long, job-beyond, job-changed}
 use Rattle.group.specs.Calls.{groupCount, groupOfferRows, fedRows, withJobs, groupOffered, groupOfferWork}
 use Rattle.group.proofs.Kept.{offer-length}
 use Rattle.group.proofs.Going.{Goes, goes, fed-long, same-stride, alone-goes, alone-count}
-use Rattle.group_claim.specs.Calls.{GroupCall, OfferAll, GroupRun, groupStep, alone, called, offerNumber, offerRows}
+use Rattle.group_claim.specs.Calls.{OfferAll, GroupRun, groupStep, alone, called, offerNumber, offerRows}
 use Rattle.group_claim.specs.Claim.{AllGo}
 use Rattle.group_claim.proofs.Alone.{same-run, offer-rows-is, offer-job-is, seen-same, offer-alone, run-one}
 use Rattle.group_claim.proofs.Stepping.{Stepped}

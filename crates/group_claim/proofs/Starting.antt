@@ -1,35 +1,31 @@
 -- A group's start that is not turned away: each job is as its own start would have left it, with its own part of the work values. Assumes nothing.
-use Prim.Native.Nat.{ℕ, zero, suc, _+_, _-_, _≤_, _<_, min}
+use Prim.Native.Nat.{ℕ, zero, suc, _+_, _-_, _≤_, _<_}
 use mathlib.Core.Path.{_≡_, refl, sym, _∙_, ap, ap₂, subst}
-use mathlib.Core.List.{List, [], _∷_, _++_, append-nil}
-use mathlib.Core.Bool.{Bool, true, false}
-use mathlib.Core.Logic.{_⊎_, inl, inr, ⊎-elim}
+use mathlib.Core.List.{List, _++_, append-nil}
+use mathlib.Core.Bool.{false}
 use native.Mathlib.Omega.{arith}
-use native.Mathlib.Nat.{eq-or-lt-of-le, le-of-suc-le-suc}
-use lib.ListN.{length, getD, take, drop, set, replicate, length-set, length-replicate, length-append, length-drop, replicate-append-replicate, drop-of-length-le}
-use lib.Seq.{take-at, drop-at, getD-set-same, getD-set-other}
+use lib.ListN.{length, getD, take, drop, set, replicate, length-replicate, length-append, length-drop, replicate-append-replicate, drop-of-length-le}
+use lib.Seq.{take-at, drop-at, getD-set-other}
 use borrow.Author.Tests.{eq-eqb, ltb-false, le-ltb}
-use Rattle.pixels.specs.Sizes.{workValues, badSizes, badLanes, cropBeyond}
+use Rattle.pixels.specs.Sizes.{badSizes, badLanes, cropBeyond}
 use Rattle.pixels.proofs.Causes.{first-none, none-applies}
-use Rattle.job_rules.specs.declared.Kind.{Kind}
-use Rattle.job_rules.specs.declared.Kind.the-variants.{Picture, Plane}
 use Rattle.job_rules.specs.declared.Plan.{Plan}
 use Rattle.job_rules.specs.Rules as rules
 use Rattle.job_rules.specs.Rules.{lanesOf, Formed, startNumber}
 use Rattle.job.specs.declared.Job.{Job}
 use Rattle.job.specs.Record.{fresh}
-use Rattle.job_start.specs.Start.{cleared, startWork}
+use Rattle.job_start.specs.Start.{startWork}
 use Rattle.job_start.proofs.Starting.{start-went}
-use Rattle.job_claim.specs.Calls.{Run, nothing, begun}
+use Rattle.job_claim.specs.Calls.{nothing, begun}
 use Rattle.group_parts.specs.Parts.{offset, partAt}
 use Rattle.group_parts.proofs.Cutting.{offset-next, part-append, part-long}
 use Rattle.group_rules.specs.declared.Group.{Group}
-use Rattle.group_rules.specs.Group.{groupLimit, spare, jobAt, planAt, givenAt, needs, total, differing, formed, formedBy, looked, freshJobs, groupOf}
+use Rattle.group_rules.specs.Group.{groupLimit, spare, jobAt, planAt, givenAt, needs, total, differing, formed, looked, freshJobs, groupOf}
 use Rattle.group_rules.specs.Tests.{startCauses, groupStartNumber}
 use Rattle.group_rules.proofs.Jobs.{some-none}
 use Rattle.group_rules.proofs.Forming.{fresh-none, fresh-long, fresh-at, formed-so}
 use Rattle.group_start.specs.Start.{groupStarted, groupStartWork}
-use Rattle.group_claim.specs.Calls.{GroupRun, groupBegun, alone}
+use Rattle.group_claim.specs.Calls.{groupBegun, alone}
 use Rattle.group_claim.specs.Claim.{planIn, partIn}
 
 -- ---- the jobs that a start forms

@@ -1,15 +1,12 @@
 -- What one group call comes to, for the group and for each of its jobs; and a call that is turned away. Assumes nothing.
 use Prim.Native.Nat.{ℕ, _+_, _≤_, _<_}
 use mathlib.Core.Path.{_≡_, refl, sym, _∙_, ap, ap₂}
-use mathlib.Core.List.{List, [], _∷_, _++_}
+use mathlib.Core.List.{List, [], _++_}
 use mathlib.Core.Bool.{Bool, true, false, cond}
 use native.Mathlib.Omega.{arith}
 use lib.Dec.{eqb}
 use lib.ListN.{length, take, drop, take-append-drop}
-use Rattle.job_rules.specs.declared.Plan.{Plan}
-use Rattle.job_rules.specs.Rules.{lanesOf}
-use Rattle.job.specs.declared.Job.{Job}
-use Rattle.job_claim.specs.Calls.{Call, Seen, Run, seenTake, run}
+use Rattle.job_claim.specs.Calls.{Call, Seen, run}
 use Rattle.group_parts.specs.Parts.{partAt}
 use Rattle.group_rules.specs.declared.Group.{Group}
 use Rattle.group_rules.specs.Group.{jobAt, planAt, needs, total}

@@ -1,5 +1,5 @@
 -- A group's take that succeeds: the named job's own take, and nothing of the others. Assumes nothing.
-use Prim.Native.Nat.{ℕ, _+_, _-_, _*_, _≤_, _<_, min}
+use Prim.Native.Nat.{ℕ, _+_, _-_, _≤_, _<_, min}
 use mathlib.Core.Path.{_≡_, refl, sym, _∙_, ap, ap₂, subst}
 use mathlib.Core.List.{List, [], _∷_, _++_}
 use mathlib.Core.Bool.{Bool, true, false, cond}
@@ -25,7 +25,7 @@ use Rattle.group_rules.specs.declared.Group.{Group}
 use Rattle.group_rules.specs.Group.{spare, jobAt, planAt, needs, total}
 use Rattle.group.specs.Calls.{withJobs, groupTaken, groupTakeOut, groupTakeWork}
 use Rattle.group.proofs.Going.{TakeGoes, group-takes, alone-takes}
-use Rattle.group_claim.specs.Calls.{GroupCall, TakeOf, GroupRun, groupStep, alone, called, takeNumber, takeOut}
+use Rattle.group_claim.specs.Calls.{TakeOf, GroupRun, groupStep, alone, called, takeNumber, takeOut}
 use Rattle.group_claim.specs.Claim.{AllGo}
 use Rattle.group_claim.proofs.Alone.{same-run, take-length, take-alone, run-none, run-one}
 use Rattle.group_claim.proofs.Stepping.{Stepped}
