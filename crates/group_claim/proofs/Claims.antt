@@ -110,8 +110,8 @@ module _ (plans : List Plan) (count : ℕ) (work : List ℕ) (r : GroupRun) (v :
   none-at k h =
       some-of (λ i. readyAt (jobAt js i) k) (g .count)
       (λ i l.
-        let m : i < count = omega (arith, v .count-is) in
-        ap (λ (j : Job). readyAt j k) (v .job-is i m) ∙ le-ltb (r .seen i .taken) (R (planIn plans count i) k) (h i m))
+      let m : i < count = omega (arith, v .count-is) in
+      ap (λ (j : Job). readyAt j k) (v .job-is i m) ∙ le-ltb (r .seen i .taken) (R (planIn plans count i) k) (h i m))
 
   pub some-at : (k : ℕ) → SomeReady plans count r k → someReady js (g .count) k ≡ true
   some-at k (i, m, h) =

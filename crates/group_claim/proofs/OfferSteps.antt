@@ -79,16 +79,16 @@ module _ (r : GroupRun) (long : r .group .count ≤ length (r .group .jobs)) (ro
   plans k =
       ap (λ (x : List Job). planAt x k) next-jobs
       ∙ ⊎-elim
-        (λ b. ap (λ (x : Job). x .plan) (job-beyond (λ j. moreAccepted j rows-in) (g .count) k js b))
-        (λ l. ap (λ (x : Job). x .plan) (job-changed (λ j. moreAccepted j rows-in) (g .count) k js long l))
-        (le-or-lt (g .count) k)
+      (λ b. ap (λ (x : Job). x .plan) (job-beyond (λ j. moreAccepted j rows-in) (g .count) k js b))
+      (λ l. ap (λ (x : Job). x .plan) (job-changed (λ j. moreAccepted j rows-in) (g .count) k js long l))
+      (le-or-lt (g .count) k)
 
   job-then : (i : ℕ) → i < g .count → jobAt (next .group .jobs) i ≡ job.offerJob (jobAt js i) (length fed) (needs js i)
   job-then i l =
       ap (λ (x : List Job). jobAt x i) next-jobs
       ∙ job-changed (λ j. moreAccepted j rows-in) (g .count) i js long l
       ∙ sym (offer-job-is (jobAt js i) (length fed) (needs js i) (alone-goes g rows (length lent-work) went i l)
-        ∙ ap (λ (c : ℕ). moreAccepted (jobAt js i) c) (alone-count g rows (length lent-work) went i l))
+      ∙ ap (λ (c : ℕ). moreAccepted (jobAt js i) c) (alone-count g rows (length lent-work) went i l))
 
   -- ---- the work values
   keeps : (i : ℕ) (x : List ℕ) → length x ≡ needs js i → length (own i x) ≡ needs js i
@@ -133,14 +133,14 @@ module _ (r : GroupRun) (long : r .group .count ≤ length (r .group .jobs)) (ro
         let theirs : ℕ = rowBytes (lanesOf (planAt js 0)) (planAt js 0 .source .width) * rows-in in
         next-seen i
         ∙ seen-same (planAt js i) (r .seen i) rows fed rows-in (job.offerRows (jobAt js i) (length fed) (needs js i)) (sym all-rows)
-          (sym (take-take mine theirs rows (omega (arith, ap (λ (x : ℕ). x * rows-in) (same-stride g rows (length lent-work) went i l)))))
+        (sym (take-take mine theirs rows (omega (arith, ap (λ (x : ℕ). x * rows-in) (same-stride g rows (length lent-work) went i l)))))
 
     alone-then : alone i next ≡ run (planAt js i) (alone i r) (called i r (OfferAll rows lent))
     alone-then =
         same-run _ _ (job-then i l) part-then seen-then
         ∙ sym (ap (λ (x : List Call). run (planAt js i) (alone i r) x) (called-then i)
-          ∙ run-one (planAt js i) (alone i r) (Offer fed (needs js i))
-          ∙ offer-alone (planAt js i) (alone i r) (needs js i) part-whole fed)
+        ∙ run-one (planAt js i) (alone i r) (Offer fed (needs js i))
+        ∙ offer-alone (planAt js i) (alone i r) (needs js i) part-whole fed)
 
     -- all of it goes through, and every row is accepted
     lent-all : length (take (needs js i) (partAt (needs js) i (r .work))) ≡ needs js i
@@ -152,10 +152,11 @@ module _ (r : GroupRun) (long : r .group .count ≤ length (r .group .jobs)) (ro
     all-go : AllGo (planAt js i) (alone i r) (called i r (OfferAll rows lent))
     all-go =
         let row : ℕ = rowBytes (lanesOf (planAt js i)) (planAt js i .source .width) in
-        subst (λ (x : List Call). AllGo (planAt js i) (alone i r) x) (sym (called-then i))
-        (ap (λ (x : ℕ). job.offerNumber (jobAt js i) (length fed) x) lent-all ∙ alone-goes g rows (length lent-work) went i l,
+        subst (λ (x : List Call). AllGo (planAt js i) (alone i r) x) (sym (called-then i)) (
+          ap (λ (x : ℕ). job.offerNumber (jobAt js i) (length fed) x) lent-all ∙ alone-goes g rows (length lent-work) went i l,
           ap (λ (x : ℕ). row * job.offerRows (jobAt js i) (length fed) x) lent-all ∙ ap (λ (x : ℕ). row * x) all-rows ∙ all-bytes,
-          tt)
+          tt,
+        )
 
   pub offer-accepted : Stepped r (groupStep r (OfferAll rows lent)) (OfferAll rows lent)
   offer-accepted = record {

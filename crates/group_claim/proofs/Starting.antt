@@ -132,8 +132,8 @@ module _ (plans : List Plan) (count : ℕ) (work : List ℕ) (e : groupStartNumb
       ap length began-work
       ∙ length-append (zeros (total js count)) (drop (total js count) work)
       ∙ (let a : length (zeros (total js count)) ≡ total js count = length-replicate (total js count) 0 in
-        let b = length-drop (total js count) work in
-        omega (arith, a, b, o .room))
+      let b = length-drop (total js count) work in
+      omega (arith, a, b, o .room))
 
   pub began-rest : drop (total js count) (groupStartWork plans count work) ≡ drop (total js count) work
   began-rest =

@@ -213,8 +213,8 @@ module _ (r : GroupRun) (long : r .group .count ≤ length (r .group .jobs)) (k 
       let there = put-there (offset (needs js) k) (needs js k) lent-work left (omega (arith, lent-in)) left-long in
       same-run _ _ job-taken (part-now k (took .named) ∙ there) seen-mine
       ∙ sym (ap (λ (x : List Call). run (planAt js k) (alone k r) x) called-same
-        ∙ run-one (planAt js k) (alone k r) (Take out (needs js k))
-        ∙ take-alone (planAt js k) (alone k r) (needs js k) mine-long out)
+      ∙ run-one (planAt js k) (alone k r) (Take out (needs js k))
+      ∙ take-alone (planAt js k) (alone k r) (needs js k) mine-long out)
 
   all-go-same : AllGo (planAt js k) (alone k r) (called k r (TakeOf k out lent))
   all-go-same =
