@@ -7,3 +7,4 @@ pub mod Starting
 pub mod Standing
 pub mod Claims
 pub mod Theorem
+pub mod Trials
