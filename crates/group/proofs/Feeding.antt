@@ -23,13 +23,15 @@ use Rattle.job.proofs.RowIn.{row-in}
 use Rattle.group_parts.specs.Parts.{offset, partAt, putAt, eachPart}
 use Rattle.group_parts.proofs.Cutting.{offset-zero, offset-suc, part-long, each-none, each-more, each-kept, each-length, each-same, each-twice}
 use Rattle.group_rules.specs.declared.Group.{Group}
-use Rattle.group_rules.specs.Group.{jobAt, planAt, eachJob, needs, total, groupLawful}
+use Rattle.group_rules.specs.Group.{groupLimit, jobAt, planAt, eachJob, needs, total}
 use Rattle.group_rules.specs.Tests.{groupOfferNumber}
+use Rattle.group_rules.proofs.Jobs.{jobs-none, jobs-next}
+use Rattle.group_rules.proofs.Lawful.{LawfulGroup, lawful-group, lanes-here}
+use Rattle.group_rules.proofs.Going.{GroupOfferGoes, group-offer-goes}
 use Rattle.group.specs.Inner.{RowForAll}
 use Rattle.group.specs.Calls.{groupCount, withJobs}
-use Rattle.group.proofs.Members.{LawfulGroup, lawful-group, lanes-here, jobs-none, jobs-next}
 use Rattle.group.proofs.Kept.{accepted-length, fed-none, fed-suc, fed-length}
-use Rattle.group.proofs.Going.{Goes, part-small, part-fits, in-lent, in-source, same-stride}
+use Rattle.group.proofs.Going.{legal-offer, part-small, part-fits, in-lent, in-source, same-stride}
 
 -- ---- a source row for every job
 pub record Feeding (g : Group) (s : ℕ) (row work₀ work : List ℕ) (at i : ℕ) : Type 0 where
@@ -53,7 +55,7 @@ module _ {g : Group} {s : ℕ} {row work₀ work : List ℕ} {at i : ℕ} (a : R
   facts : LawfulGroup g
   facts = lawful-group g (a .lawful)
 
-  pub within : i < 8
+  pub within : i < groupLimit
   within = omega (arith, facts .few)
 
   module _ (half : ℕ) (h : half ≡ rowBytes (lanesOf p) (p .target .width)) where
@@ -105,8 +107,11 @@ rows-first g c rows w = record {
   work-is = sym (each-kept (needs (g .jobs)) (λ i. fed (planAt (g .jobs) i) rows (jobAt (g .jobs) 0 .accepted) 0) (λ i x. fed-none (planAt (g .jobs) i) rows _ x) (g .count) w);
 }
 
-module _ {g : Group} {c : ℕ} {rows work₀ work : List ℕ} {r : ℕ} (o : Goes g (length rows) (length work₀)) (is : c ≡ groupCount g (length rows)) (v : Rows g c rows work₀ work r) (l : r < c)
+module _ {g : Group} {c : ℕ} {rows work₀ work : List ℕ} {r : ℕ} (goes : groupOfferNumber g (length rows) (length work₀) ≡ 0) (is : c ≡ groupCount g (length rows)) (v : Rows g c rows work₀ work r) (l : r < c)
     (stride : ℕ) (h : stride ≡ rowBytes (lanesOf (planAt (g .jobs) 0)) (planAt (g .jobs) 0 .source .width)) where
+  abbrev o : GroupOfferGoes g (length rows) (length work₀)
+  o = group-offer-goes g (length rows) (length work₀) goes
+
   abbrev js : List Job
   js = g .jobs
 
@@ -120,7 +125,7 @@ module _ {g : Group} {c : ℕ} {rows work₀ work : List ℕ} {r : ℕ} (o : Goe
       omega (arith, m, q)
 
   pub row-number : k + r < 16384
-  row-number = omega (arith, in-source g (length rows) (length work₀) o, o .lawful .member 0 (o .lawful .some) .rules .sizes .source-height .most)
+  row-number = omega (arith, in-source g (length rows) (length work₀) o, o .group .member 0 (o .group .some) .rules .sizes .source-height .most)
 
   -- the row as the code lends it
   abbrev row : List ℕ
@@ -137,7 +142,7 @@ module _ {g : Group} {c : ℕ} {rows work₀ work : List ℕ} {r : ℕ} (o : Goe
       rw e (row-part (lanesOf (planAt js i)) rows (planAt js i .source .width) r)
 
   pub row-asks : RowForAll g row work
-  row-asks = record { lawful = o .legal; long = row-long ∙ h; room = omega (arith, o .room, v .long) }
+  row-asks = record { lawful = legal-offer g (length rows) (length work₀) goes; long = row-long ∙ h; room = omega (arith, o .room, v .long) }
 
   abbrev before : ℕ → List ℕ → List ℕ
   before i = fed (planAt js i) rows k r
@@ -167,8 +172,8 @@ module _ {g : Group} {c : ℕ} {rows work₀ work : List ℕ} {r : ℕ} (o : Goe
         ∙ ap (λ (z : List ℕ). eachPart (needs js) this (g .count) z) (v .work-is)
         ∙ each-twice (needs js) this before this-keeps before-keeps (g .count) work₀ (o .room)
         ∙ each-same (needs js) (λ i x. this i (before i x)) after (λ i x q. this-keeps i (before i x) (before-keeps i x q)) after-keeps (g .count) work₀ (o .room)
-          (λ i b. let x : List ℕ = partAt (needs js) i work₀ in
-            ap (λ (z : List ℕ). rowAccepted (planAt js i) z (k + r) (before i x)) (row-is i b) ∙ sym (fed-suc (planAt js i) rows k r x)));
+        (λ i b. let x : List ℕ = partAt (needs js) i work₀ in
+        ap (λ (z : List ℕ). rowAccepted (planAt js i) z (k + r) (before i x)) (row-is i b) ∙ sym (fed-suc (planAt js i) rows k r x)));
   }
 
 -- ---- all records with c rows more

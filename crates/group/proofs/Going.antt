@@ -9,9 +9,9 @@ use native.Mathlib.Nat.{mul-le-mul, mul-le-mul-left, mul-mod-right, mul-div-canc
 use lib.ListN.{length, take, drop}
 use lib.Seq.{length-take-le}
 use borrow.Rule.Slice.PartMut.{putMid}
-use borrow.Author.Tests.{leb-false, ltb-false}
+use borrow.Author.Tests.{ltb-false}
 use Rattle.pixels.specs.Sizes.{rowBytes}
-use Rattle.pixels.proofs.Truths.{not-false, same-of}
+use Rattle.pixels.proofs.Truths.{not-false}
 use Rattle.pixels.proofs.Causes.{none-applies}
 use Rattle.job_rules.specs.declared.Plan.{Plan}
 use Rattle.job_rules.specs.Rules.{lanesOf, R}
@@ -19,14 +19,16 @@ use Rattle.job.specs.declared.Job.{Job}
 use Rattle.job.specs.Calls as job
 use Rattle.job.specs.Calls.{lentRows, fed, offerWork}
 use Rattle.job.proofs.Counting.{counted-is}
-use Rattle.job.proofs.Views.{WholeRows, whole-of, offer-went, offer-goes, take-goes}
+use Rattle.job.proofs.Views.{WholeRows, offer-went, offer-goes, take-goes}
 use Rattle.group_parts.specs.Parts.{offset, partAt, putAt, eachPart}
 use Rattle.group_parts.proofs.Cutting.{offset-most, offset-next, part-long, cut-is, put-is, each-same}
 use Rattle.group_rules.specs.declared.Group.{Group}
 use Rattle.group_rules.specs.Group.{groupLimit, jobAt, planAt, needs, total, groupLawful}
-use Rattle.group_rules.specs.Tests.{readyAt, someReady, groupOfferCauses, groupOfferNumber, groupTakeCauses, groupTakeNumber}
+use Rattle.group_rules.specs.Tests.{readyAt, someReady, groupOfferCauses, groupOfferNumber}
+use Rattle.group_rules.proofs.Jobs.{some-none}
+use Rattle.group_rules.proofs.Lawful.{LawfulGroup, lanes-here, need-most}
+use Rattle.group_rules.proofs.Going.{GroupOfferGoes, GroupTakeGoes}
 use Rattle.group.specs.Calls.{mostRows, groupCount, fedRows}
-use Rattle.group.proofs.Members.{LawfulGroup, lawful-group, lanes-here, need-most, some-none}
 use Rattle.group.proofs.Kept.{fed-length, fed-front, offer-length}
 use Rattle.group.proofs.Counted.{count-most, count-some, count-low}
 
@@ -45,38 +47,21 @@ module _ (g : Group) (few : LawfulGroup g) (at i half : ℕ) (w : List ℕ)
 
 -- ---- offer
 
-pub record Goes (g : Group) (n w : ℕ) : Type 0 where
-  pub legal : groupLawful g ≡ true
-  pub lawful : LawfulGroup g
-  pub whole : WholeRows (planAt (g .jobs) 0) n
-  pub room : total (g .jobs) (g .count) ≤ w
-  pub none-ready : someReady (g .jobs) (g .count) (jobAt (g .jobs) 0 .accepted) ≡ false
-  pub remain : jobAt (g .jobs) 0 .accepted < planAt (g .jobs) 0 .source .height
-
-pub goes : (g : Group) (n w : ℕ) → groupOfferNumber g n w ≡ 0 → Goes g n w
+pub legal-offer : (g : Group) (n w : ℕ) → groupOfferNumber g n w ≡ 0 → groupLawful g ≡ true
 unfolding groupOfferNumber
-goes g n w e =
-    let q = none-applies (groupOfferCauses g n w) e in
-    record {
-      legal = not-false _ (q .0);
-      lawful = lawful-group g (not-false _ (q .0));
-      whole = whole-of (planAt (g .jobs) 0) n (q .1 .0);
-      room = ltb-false _ _ (q .1 .1 .0);
-      none-ready = q .1 .1 .1 .0;
-      remain = leb-false _ _ (q .1 .1 .1 .1 .0);
-    }
+legal-offer g n w e = not-false _ (none-applies (groupOfferCauses g n w) e .0)
 
 -- the length of a source row
 abbrev pub strideOf : Group → ℕ
 strideOf g = rowBytes (lanesOf (planAt (g .jobs) 0)) (planAt (g .jobs) 0 .source .width)
 
 -- of n bytes lent and w work values
-module _ (g : Group) (n w : ℕ) (o : Goes g n w) where
+module _ (g : Group) (n w : ℕ) (o : GroupOfferGoes g n w) where
   abbrev js : List Job
   js = g .jobs
 
   pub stride-pos : 0 < strideOf g
-  stride-pos = let m = o .lawful .member 0 (o .lawful .some) in mul-pos (lanes-here (jobAt js 0) (m .rules) .some) (m .rules .sizes .source-width .some)
+  stride-pos = let m = o .group .member 0 (o .group .some) in mul-pos (lanes-here (jobAt js 0) (m .rules) .some) (m .rules .sizes .source-width .some)
 
   lent-is : n ≡ strideOf g * lentRows (planAt js 0) n
   lent-is = omega (arith, div-add-mod n (strideOf g), o .whole .whole)
@@ -109,7 +94,7 @@ module _ (g : Group) (n w : ℕ) (o : Goes g n w) where
       count-low g n (rw z (o .none-ready)) x l
 
 -- of the rows lent themselves
-module _ (g : Group) (rows : List ℕ) (w : ℕ) (o : Goes g (length rows) w) where
+module _ (g : Group) (rows : List ℕ) (w : ℕ) (o : GroupOfferGoes g (length rows) w) where
   abbrev jobs : List Job
   jobs = g .jobs
 
@@ -123,7 +108,7 @@ module _ (g : Group) (rows : List ℕ) (w : ℕ) (o : Goes g (length rows) w) wh
 
   module _ (i : ℕ) (l : i < g .count) where
     pub same-stride : rowBytes (lanesOf (planAt jobs i)) (planAt jobs i .source .width) ≡ strideOf g
-    same-stride = ap₂ rowBytes (o .lawful .member i l .alike .lanes) (o .lawful .member i l .alike .width)
+    same-stride = ap₂ rowBytes (o .group .member i l .alike .lanes) (o .group .member i l .alike .width)
 
     long-here : length (fedRows g rows) ≡ rowBytes (lanesOf (planAt jobs i)) (planAt jobs i .source .width) * accepts
     long-here = fed-long ∙ ap (λ (x : ℕ). x * accepts) (sym same-stride)
@@ -133,7 +118,7 @@ module _ (g : Group) (rows : List ℕ) (w : ℕ) (o : Goes g (length rows) w) wh
 
     none : (x : ℕ) → x < accepts → R (planAt jobs i) (jobAt jobs i .accepted + x) ≤ jobAt jobs i .taken
     none x h =
-        rw (o .lawful .member i l .accepted)
+        rw (o .group .member i l .accepted)
         (ltb-false _ _ (some-none (λ k. readyAt (jobAt jobs k) (jobAt jobs 0 .accepted + x)) (g .count) i (quiet g (length rows) w o x h) l))
 
     pub alone-whole : WholeRows (planAt jobs i) (length (fedRows g rows))
@@ -146,7 +131,7 @@ module _ (g : Group) (rows : List ℕ) (w : ℕ) (o : Goes g (length rows) w) wh
     pub alone-goes : job.offerNumber (jobAt jobs i) (length (fedRows g rows)) (needs jobs i) ≡ 0
     alone-goes =
         let z : jobAt jobs i .accepted + 0 ≡ jobAt jobs i .accepted = omega arith in
-        let m = o .lawful .member i l in
+        let m = o .group .member i l in
         offer-goes (jobAt jobs i) (length (fedRows g rows)) (needs jobs i) (m .rules) alone-whole (omega arith)
         (rw z at (none 0 (count-pos g (length rows) w o))) (omega (arith, o .remain, m .accepted, m .alike .height))
 
@@ -154,7 +139,7 @@ module _ (g : Group) (rows : List ℕ) (w : ℕ) (o : Goes g (length rows) w) wh
     pub alone-count : job.count (jobAt jobs i) (length (fedRows g rows)) ≡ accepts
     alone-count =
         let j : Job = jobAt jobs i in
-        let m = o .lawful .member i l in
+        let m = o .group .member i l in
         let s : ℕ = rowBytes (lanesOf (planAt jobs i)) (planAt jobs i .source .width) in
         let z : j .accepted + 0 ≡ j .accepted = omega arith in
         let e : lentRows (j .plan) (length (fedRows g rows)) ≡ accepts = ap (λ (x : ℕ). x / s) long-here ∙ mul-div-cancel-left accepts wide in
@@ -169,7 +154,7 @@ module _ (g : Group) (rows : List ℕ) (w : ℕ) (o : Goes g (length rows) w) wh
         let went = offer-went (jobAt jobs i) (fedRows g rows) x (ap (λ (z : ℕ). job.offerNumber (jobAt jobs i) (length (fedRows g rows)) z) e ∙ alone-goes) in
         went .work-after
         ∙ ap (λ (c : ℕ). fed p (fedRows g rows) (jobAt jobs i .accepted) c x) alone-count
-        ∙ ap (λ (k : ℕ). fed p (fedRows g rows) k accepts x) (o .lawful .member i l .accepted)
+        ∙ ap (λ (k : ℕ). fed p (fedRows g rows) k accepts x) (o .group .member i l .accepted)
         ∙ fed-front p rows (jobAt jobs 0 .accepted) accepts (strideOf g * accepts) x (rw same-stride (omega arith))
 
   -- all of them: each part fed is each job's own offer
@@ -183,44 +168,25 @@ module _ (g : Group) (rows : List ℕ) (w : ℕ) (o : Goes g (length rows) w) wh
       (λ i x h. offer-length (jobAt jobs i) (fedRows g rows) x ∙ h)
       (g .count) work fits
       (λ i l. sym (alone-fed i l (partAt (needs jobs) i work)
-        (part-long (offset (needs jobs) i) (needs jobs i) work (omega (arith, offset-next (needs jobs) i (g .count) l)))))
+      (part-long (offset (needs jobs) i) (needs jobs i) work (omega (arith, offset-next (needs jobs) i (g .count) l)))))
 
 -- ---- take, of job i
 
-pub record TakeGoes (g : Group) (i n w : ℕ) : Type 0 where
-  pub lawful : LawfulGroup g
-  pub named : i < g .count
-  pub exact : n ≡ rowBytes (lanesOf (planAt (g .jobs) i)) (planAt (g .jobs) i .target .width)
-  pub room : total (g .jobs) (g .count) ≤ w
-  pub ready : jobAt (g .jobs) i .taken < R (planAt (g .jobs) i) (jobAt (g .jobs) i .accepted)
-
-pub group-takes : (g : Group) (i n w : ℕ) → groupTakeNumber g i n w ≡ 0 → TakeGoes g i n w
-unfolding groupTakeNumber
-group-takes g i n w e =
-    let q = none-applies (groupTakeCauses g i n w) e in
-    record {
-      lawful = lawful-group g (not-false _ (q .0));
-      named = leb-false _ _ (q .1 .0);
-      exact = same-of n _ (q .1 .1 .0);
-      room = ltb-false _ _ (q .1 .1 .1 .0);
-      ready = leb-false _ _ (q .1 .1 .1 .1 .0);
-    }
-
-pub alone-takes : (g : Group) (i n w : ℕ) → TakeGoes g i n w → job.takeNumber (jobAt (g .jobs) i) n (needs (g .jobs) i) ≡ 0
+pub alone-takes : (g : Group) (i n w : ℕ) → GroupTakeGoes g i n w → job.takeNumber (jobAt (g .jobs) i) n (needs (g .jobs) i) ≡ 0
 alone-takes g i n w o =
-    take-goes (jobAt (g .jobs) i) n (needs (g .jobs) i) (o .lawful .member i (o .named) .rules) (o .exact) (omega arith) (o .ready)
+    take-goes (jobAt (g .jobs) i) n (needs (g .jobs) i) (o .group .member i (o .named) .rules) (o .exact) (omega arith) (o .ready)
 
 -- its part of the work values, which starts at `at`; half is what the code has for the values of a half
-module _ (g : Group) (i at n : ℕ) (work : List ℕ) (o : TakeGoes g i n (length work)) (e : at ≡ total (g .jobs) i) where
+module _ (g : Group) (i at n : ℕ) (work : List ℕ) (o : GroupTakeGoes g i n (length work)) (e : at ≡ total (g .jobs) i) where
   pub take-within : i < groupLimit
-  take-within = omega (arith, o .lawful .few, o .named)
+  take-within = omega (arith, o .group .few, o .named)
 
   module _ (half : ℕ) (h : half ≡ rowBytes (lanesOf (planAt (g .jobs) i)) (planAt (g .jobs) i .target .width)) where
     pub take-small : at + 2 * half ≤ 1048576
-    take-small = part-small g (o .lawful) at i half work (o .room) (o .named) e h
+    take-small = part-small g (o .group) at i half work (o .room) (o .named) e h
 
     pub take-fits : at + 2 * half ≤ length work
-    take-fits = part-fits g (o .lawful) at i half work (o .room) (o .named) e h
+    take-fits = part-fits g (o .group) at i half work (o .room) (o .named) e h
 
     pub take-cut : take (at + 2 * half - at) (drop at work) ≡ partAt (needs (g .jobs)) i work
     take-cut = cut-is (needs (g .jobs)) i at (2 * half) work e (omega (arith, h))

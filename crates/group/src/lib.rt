@@ -1,12 +1,16 @@
 // The calls of a group (SCOPE, "Groups"): an offer of source rows to all its jobs, and a take of one job's next row.
 use group_rules::Group;
+use group_rules::check_group;
+use group_tests::Placed;
+use group_tests::check_group_offer;
+use group_tests::check_group_take;
+use group_tests::some_ready;
 use job::Job;
 use job::Taken;
 use job_rules::row_bytes;
 use job_rules::row_form;
 use pixels::Checked;
 use rows_in::put_source_row;
-use rows_schedule::rows_by;
 ghost use mathlib.Core.Path.{_≡_};
 ghost use mathlib.Core.Bool.{true};
 ghost use Prim.Native.Nat.{_+_, _≤_, _<_};
@@ -35,25 +39,6 @@ pub struct TakenGroup {
 }
 
 // ---- how many rows come in
-
-// One of the jobs has a row ready once k rows are accepted.
-fn some_ready(g: Group, k: u32) -> bool
-    requires { ⌜ groupLawful g ≡ true ⌝ }
-    ensures { λ r. ⌜ r ≡ someReady (g .jobs) (g .count) k ⌝ }
-{
-    let n = g.count as usize;
-    let mut i: usize = 0;
-    while i < n {
-        let j = g.jobs[i];
-        let p = j.plan;
-        let made = rows_by(p.crop.y, p.crop.height, p.target.height, k);
-        if (j.taken as u64) < made {
-            return true;
-        }
-        i += 1;
-    }
-    false
-}
 
 // The rows lent or those that the source has left, whichever are fewer; n is the number of bytes lent.
 fn most_rows(g: Group, n: usize) -> u32
@@ -171,4 +156,74 @@ fn take_part(mut g: Group, k: usize, at: usize, out: &mut [u8], work: &mut [u32]
     let next = taken_job(t);
     g.jobs[k] = next;
     g
+}
+
+// ---- the calls
+
+// The rows ready of a job, counted from 0; none of a group that breaks the rules, nor of a job that it lacks.
+// Rules out: the rows ready of the job after it; a row ready of a job beyond the count.
+pub fn group_ready(g: Group, job: u32) -> u32
+    ensures { λ r. ⌜ r ≡ groupReady g job ⌝ }
+{
+    if !check_group(g) {
+        return 0;
+    }
+    if g.count <= job {
+        return 0;
+    }
+    let j = g.jobs[job as usize];
+    j.ready()
+}
+
+// Offers one or more whole source rows to all jobs; returns how many were accepted.
+// Rules out: rows counted by the first job alone; an offer that goes on past the first row that makes a row ready; each row put into the first job's part.
+pub fn offer_group(g: Group, rows: &[u8], work: &mut [u32]) -> OfferedGroup
+    ensures number { λ r. ⌜ checkedNumber (r .answer) ≡ groupOfferNumber g (length (now (rows .entry))) (length (now (work .entry))) ⌝ }
+    ensures rows { λ r. ⌜ r .rows ≡ groupOfferRows g (length (now (rows .entry))) (length (now (work .entry))) ⌝ }
+    ensures group { λ r. ⌜ r .group ≡ groupOffered g (length (now (rows .entry))) (length (now (work .entry))) ⌝ }
+    ensures work { λ _. ⌜ now (work .exit) ≡ groupOfferWork g (now (rows .entry)) (now (work .entry)) ⌝ }
+{
+    let checked = check_group_offer(g, rows.len(), work.len());
+    match checked {
+        Checked::Refused(why) => {
+            return OfferedGroup {
+                answer: Checked::Refused(why),
+                rows: 0,
+                group: g,
+            };
+        }
+        Checked::Fit => {}
+    }
+    let c = count_rows(g, rows.len(), work.len());
+    feed_rows(g, c, rows, work);
+    let next = all_more(g, c);
+    OfferedGroup {
+        answer: Checked::Fit,
+        rows: c,
+        group: next,
+    }
+}
+
+// Takes the next output row of a job, counted from 0.
+// Rules out: a part cut one value too late; the record of the named job not advanced; a take that writes into the first job's part.
+pub fn take_group(g: Group, job: u32, out: &mut [u8], work: &mut [u32]) -> TakenGroup
+    ensures number { λ r. ⌜ checkedNumber (r .answer) ≡ groupTakeNumber g job (length (now (out .entry))) (length (now (work .entry))) ⌝ }
+    ensures group { λ r. ⌜ r .group ≡ groupTaken g job (length (now (out .entry))) (now (work .entry)) ⌝ }
+    ensures out { λ _. ⌜ now (out .exit) ≡ groupTakeOut g job (now (out .entry)) (now (work .entry)) ⌝ }
+    ensures work { λ _. ⌜ now (work .exit) ≡ groupTakeWork g job (length (now (out .entry))) (now (work .entry)) ⌝ }
+{
+    let placed = check_group_take(g, job, out.len(), work.len());
+    match placed {
+        Placed::Refused { why } => TakenGroup {
+            answer: Checked::Refused(why),
+            group: g,
+        },
+        Placed::At { place } => {
+            let next = take_part(g, job as usize, place, out, work);
+            TakenGroup {
+                answer: Checked::Fit,
+                group: next,
+            }
+        }
+    }
 }

@@ -1,7 +1,8 @@
+-- Each record so far counts the rows; the others are as they were. Assumes nothing.
 use mathlib.Core.Path.{_≡_}
 use Prim.Native.Nat.{_-_}
 use native.Mathlib.Omega.{arith}
-use Rattle.group.proofs.Members.{lawful-group}
+use Rattle.group_rules.proofs.Lawful.{lawful-group}
 use Rattle.group.proofs.Feeding.{Advancing, advancing-first, advancing-more, advancing-done}
 use borrow.Author.Needs.{needs}
 use Rattle.group.proofs.all_more.Statement.{statement}
@@ -26,7 +27,9 @@ element-copy-out-j : tie.Need-element-copy-out-j Inv-loop μ-loop
 element-copy-out-j c = omega (arith, lawful-group _ (c .before .before .pre .0) .few)
 
 add-t17 : tie.Need-add-t17 Inv-loop μ-loop
-add-t17 c = omega (arith, lawful-group _ (c .before .before .before .before .before .pre .0) .member (c .before .before .before .before .loop .i) (omega arith) .accepted, c .before .before .before .before .before .pre .1)
+add-t17 c =
+    let b = c .before .before .before .before .before in
+    omega (arith, lawful-group _ (b .pre .0) .member (c .before .before .before .before .loop .i) (omega arith) .accepted, b .pre .1)
 
 mul-more : tie.Need-mul-more Inv-loop μ-loop
 mul-more c = omega (arith, lawful-group _ (c .before .before .before .before .before .pre .0) .few)
@@ -41,10 +44,16 @@ loop-less : tie.Need-loop-less Inv-loop μ-loop
 loop-less c = search needs
 
 loop-again : tie.Need-loop-again Inv-loop μ-loop
-loop-again c = advancing-more (c .before .before .before .before .before .args .t1) (c .before .before .before .before .before .args .c) (c .before .before .before .before .loop .next) (c .before .before .before .before .loop .i) (c .before .before .before .before .loop .inv) (omega arith)
+loop-again c =
+    let b = c .before .before .before .before .before in
+    let l = c .before .before .before .before .loop in
+    advancing-more (b .args .t1) (b .args .c) (l .next) (l .i) (l .inv) (omega arith)
 
 returns : tie.Need-returns Inv-loop μ-loop
-returns c = advancing-done (c .before .before .args .t1) (c .before .before .args .c) (c .before .loop .next) (c .before .loop .i) (c .before .loop .inv) (omega (arith, c .before .loop .inv .upto))
+returns c =
+    let b = c .before .before in
+    let l = c .before .loop in
+    advancing-done (b .args .t1) (b .args .c) (l .next) (l .i) (l .inv) (omega (arith, l .inv .upto))
 
 pub all-more-spec : {M : Type 1} → statement M
 all-more-spec =

@@ -1,3 +1,4 @@
+-- The parts of the jobs so far have the row, the rest is as it was. Assumes nothing.
 use mathlib.Core.Path.{_≡_}
 use Prim.Native.Nat.{_-_}
 use native.Mathlib.Omega.{arith}
@@ -58,7 +59,9 @@ loop-less : tie.Need-loop-less Inv-loop μ-loop
 loop-less c = search needs
 
 loop-again : tie.Need-loop-again Inv-loop μ-loop
-loop-again c = let put = rw (c .before .before .before .before .before .row-form .ensures) at (c .before .before .put-source-row .ensures .1) in feeding-more (c .before .before .before .before .before .before .before .before .before .before .before .before .pre) (c .before .before .before .before .before .before .before .before .before .loop .inv) (omega arith) _ (c .before .before .before .before .row-bytes .ensures) _ put
+loop-again c =
+    let put = rw (c .before .before .before .before .before .row-form .ensures) at (c .before .before .put-source-row .ensures .1) in
+    feeding-more (c .before .before .before .before .before .before .before .before .before .before .before .before .pre) (c .before .before .before .before .before .before .before .before .before .loop .inv) (omega arith) _ (c .before .before .before .before .row-bytes .ensures) _ put
 
 same-length : tie.Need-same-length Inv-loop μ-loop
 same-length c = c .before .loop .inv .long

@@ -1,7 +1,7 @@
+-- All jobs have been fed the rows so far. Assumes nothing.
 use mathlib.Core.Path.{_≡_}
 use Prim.Native.Nat.{_-_}
 use native.Mathlib.Omega.{arith}
-use Rattle.group.proofs.Going.{goes}
 use Rattle.group.proofs.Feeding.{Rows, rows-first, row-lent, row-number, row-asks, rows-more}
 use borrow.Author.Needs.{needs}
 use Rattle.group.proofs.feed_rows.Statement.{statement}
@@ -26,13 +26,19 @@ cast-at : tie.Need-cast-at Inv-loop μ-loop
 cast-at c = search needs
 
 mul-at : tie.Need-mul-at Inv-loop μ-loop
-mul-at c = omega (arith, row-lent (goes _ _ _ (c .before .before .before .before .before .before .pre .0)) (c .before .before .before .before .before .before .pre .1) (c .before .loop .inv) (omega arith) _ (c .before .before .row-bytes .ensures), c .before .before .before .before .before .before .good .1 .1 .0 .0)
+mul-at c =
+    let b = c .before .before .before .before .before .before in
+    omega (arith, row-lent (b .pre .0) (b .pre .1) (c .before .loop .inv) (omega arith) _ (c .before .before .row-bytes .ensures), b .good .1 .1 .0 .0)
 
 add-feed-row : tie.Need-add-feed-row Inv-loop μ-loop
-add-feed-row c = omega (arith, row-number (goes _ _ _ (c .before .before .before .before .before .before .before .pre .0)) (c .before .before .before .before .before .before .before .pre .1) (c .before .before .loop .inv) (omega arith) _ (c .before .before .before .row-bytes .ensures))
+add-feed-row c =
+    let b = c .before .before .before .before .before .before .before in
+    omega (arith, row-number (b .pre .0) (b .pre .1) (c .before .before .loop .inv) (omega arith) _ (c .before .before .before .row-bytes .ensures))
 
 add-feed-row-2 : tie.Need-add-feed-row-2 Inv-loop μ-loop
-add-feed-row-2 c = omega (arith, row-lent (goes _ _ _ (c .before .before .before .before .before .before .before .pre .0)) (c .before .before .before .before .before .before .before .pre .1) (c .before .before .loop .inv) (omega arith) _ (c .before .before .before .row-bytes .ensures), c .before .before .before .before .before .before .before .good .1 .1 .0 .0)
+add-feed-row-2 c =
+    let b = c .before .before .before .before .before .before .before in
+    omega (arith, row-lent (b .pre .0) (b .pre .1) (c .before .before .loop .inv) (omega arith) _ (c .before .before .before .row-bytes .ensures), b .good .1 .1 .0 .0)
 
 sub-feed-row : tie.Need-sub-feed-row Inv-loop μ-loop
 sub-feed-row c = search needs
@@ -41,10 +47,14 @@ part-feed-row-start : tie.Need-part-feed-row-start Inv-loop μ-loop
 part-feed-row-start c = search needs
 
 part-feed-row-end : tie.Need-part-feed-row-end Inv-loop μ-loop
-part-feed-row-end c = row-lent (goes _ _ _ (c .before .before .before .before .before .before .before .pre .0)) (c .before .before .before .before .before .before .before .pre .1) (c .before .before .loop .inv) (omega arith) _ (c .before .before .before .row-bytes .ensures)
+part-feed-row-end c =
+    let b = c .before .before .before .before .before .before .before in
+    row-lent (b .pre .0) (b .pre .1) (c .before .before .loop .inv) (omega arith) _ (c .before .before .before .row-bytes .ensures)
 
 feed-row-requires : tie.Need-feed-row-requires Inv-loop μ-loop
-feed-row-requires c κs = row-asks (goes _ _ _ (c .before .before .before .before .before .before .before .before .before .pre .0)) (c .before .before .before .before .before .before .before .before .before .pre .1) (c .before .before .before .before .loop .inv) (omega arith) _ (c .before .before .before .before .before .row-bytes .ensures)
+feed-row-requires c κs =
+    let b = c .before .before .before .before .before .before .before .before .before in
+    row-asks (b .pre .0) (b .pre .1) (c .before .before .before .before .loop .inv) (omega arith) _ (c .before .before .before .before .before .row-bytes .ensures)
 
 add-r : tie.Need-add-r Inv-loop μ-loop
 add-r c = search needs
@@ -53,13 +63,17 @@ loop-less : tie.Need-loop-less Inv-loop μ-loop
 loop-less c = search needs
 
 loop-again : tie.Need-loop-again Inv-loop μ-loop
-loop-again c = rows-more (goes _ _ _ (c .before .before .before .before .before .before .before .before .before .before .before .before .pre .0)) (c .before .before .before .before .before .before .before .before .before .before .before .before .pre .1) (c .before .before .before .before .before .before .before .loop .inv) (omega arith) _ (c .before .before .before .before .before .before .before .before .row-bytes .ensures) _ (c .before .before .feed-row .kept .1 .1 .1 .0) (c .before .before .feed-row .ensures)
+loop-again c =
+    let b = c .before .before .before .before .before .before .before .before .before .before .before .before in
+    rows-more (b .pre .0) (b .pre .1) (c .before .before .before .before .before .before .before .loop .inv) (omega arith) _ (c .before .before .before .before .before .before .before .before .row-bytes .ensures) _ (c .before .before .feed-row .kept .1 .1 .1 .0) (c .before .before .feed-row .ensures)
 
 same-length : tie.Need-same-length Inv-loop μ-loop
 same-length c = c .before .loop .inv .long
 
 returns : tie.Need-returns Inv-loop μ-loop
-returns c = let e : c .before .loop .r ≡ c .before .before .before .before .before .before .args .c = omega (arith, c .before .loop .inv .upto) in rw e at (c .before .loop .inv .work-is)
+returns c =
+    let e : c .before .loop .r ≡ c .before .before .before .before .before .before .args .c = omega (arith, c .before .loop .inv .upto) in
+    rw e at (c .before .loop .inv .work-is)
 
 pub feed-rows-spec : {M : Type 1} → statement M
 feed-rows-spec =

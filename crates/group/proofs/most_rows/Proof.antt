@@ -1,9 +1,9 @@
 -- The smaller of the rows lent and those left, of the first job. Assumes nothing.
 use native.Mathlib.Omega.{arith}
-use native.Mathlib.Nat.{mul-pos}
 use Rattle.job.proofs.Accepting.{most-lent, most-left}
 use Rattle.group_rules.specs.Group.{jobAt}
-use Rattle.group.proofs.Members.{lawful-group, lanes-here}
+use Rattle.group_rules.proofs.Lawful.{lawful-group}
+use Rattle.group_tests.proofs.Testing.{row-some}
 use borrow.Author.Needs.{needs}
 use Rattle.group.proofs.most_rows.Statement.{statement}
 use Rattle.group.proofs.most_rows.Tie as tie
@@ -15,7 +15,7 @@ row-bytes-requires : tie.Need-row-bytes-requires
 row-bytes-requires c κs = search needs
 
 div-lent : tie.Need-div-lent
-div-lent c = let q = lawful-group _ (c .before .before .pre) in let m = q .member 0 (q .some) in omega (arith, c .row-bytes .ensures, mul-pos (lanes-here _ (m .rules) .some) (m .rules .sizes .source-width .some))
+div-lent c = let q = lawful-group _ (c .before .before .pre) in let m = q .member 0 (q .some) in omega (arith, c .row-bytes .ensures, row-some _ (m .rules))
 
 sub-left : tie.Need-sub-left
 sub-left c = let q = lawful-group _ (c .before .before .before .pre) in omega (arith, q .member 0 (q .some) .rules .rows)

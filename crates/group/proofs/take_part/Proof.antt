@@ -1,3 +1,4 @@
+-- The part that the code cuts is the part of the definition, and is put back there. Assumes nothing.
 use mathlib.Core.Path.{_≡_, refl, ap, _∙_}
 use mathlib.Core.List.{List}
 use Prim.Native.Nat.{ℕ}
@@ -7,29 +8,39 @@ use Rattle.job.specs.declared.Job.{Job}
 use Rattle.job.specs.Calls as job
 use Rattle.group_rules.specs.Group.{jobAt}
 use Rattle.group.specs.Calls.{withJobs}
-use Rattle.group.proofs.Going.{group-takes, take-within, take-small, take-fits, take-cut, take-put}
-use borrow.Author.Needs.{needs}
+use Rattle.group_rules.proofs.Going.{group-take-goes}
+use Rattle.group.proofs.Going.{take-within, take-small, take-fits, take-cut, take-put}
 use borrow.Author.Needs.{needs}
 use Rattle.group.proofs.take_part.Statement.{statement}
 use Rattle.group.proofs.take_part.Tie as tie
 
 mul-j : tie.Need-mul-j
-mul-j c = omega (arith, take-within (c .before .before .args .t1) (c .before .before .args .k) (c .before .before .args .at) (length (c .before .before .args .out .now)) (c .before .before .args .work .now) (group-takes _ _ _ _ (c .before .before .pre .0)) (c .before .before .pre .1))
+mul-j c =
+    let b = c .before .before in
+    omega (arith, take-within (b .args .t1) (b .args .k) (b .args .at) (length (b .args .out .now)) (b .args .work .now) (group-take-goes _ _ _ _ (b .pre .0)) (b .pre .1))
 
 element-copy-out-j : tie.Need-element-copy-out-j
-element-copy-out-j c = take-within (c .before .before .args .t1) (c .before .before .args .k) (c .before .before .args .at) (length (c .before .before .args .out .now)) (c .before .before .args .work .now) (group-takes _ _ _ _ (c .before .before .pre .0)) (c .before .before .pre .1)
+element-copy-out-j c =
+    let b = c .before .before in
+    take-within (b .args .t1) (b .args .k) (b .args .at) (length (b .args .out .now)) (b .args .work .now) (group-take-goes _ _ _ _ (b .pre .0)) (b .pre .1)
 
 row-bytes-requires : tie.Need-row-bytes-requires
 row-bytes-requires c κs = search needs
 
 mul-end : tie.Need-mul-end
-mul-end c = omega (arith, take-small (c .before .before .before .before .args .t1) (c .before .before .before .before .args .k) (c .before .before .before .before .args .at) (length (c .before .before .before .before .args .out .now)) (c .before .before .before .before .args .work .now) (group-takes _ _ _ _ (c .before .before .before .before .pre .0)) (c .before .before .before .before .pre .1) _ (c .row-bytes .ensures))
+mul-end c =
+    let b = c .before .before .before .before in
+    omega (arith, take-small (b .args .t1) (b .args .k) (b .args .at) (length (b .args .out .now)) (b .args .work .now) (group-take-goes _ _ _ _ (b .pre .0)) (b .pre .1) _ (c .row-bytes .ensures))
 
 add-end : tie.Need-add-end
-add-end c = omega (arith, take-small (c .before .before .before .before .args .t1) (c .before .before .before .before .args .k) (c .before .before .before .before .args .at) (length (c .before .before .before .before .args .out .now)) (c .before .before .before .before .args .work .now) (group-takes _ _ _ _ (c .before .before .before .before .pre .0)) (c .before .before .before .before .pre .1) _ (c .row-bytes .ensures))
+add-end c =
+    let b = c .before .before .before .before in
+    omega (arith, take-small (b .args .t1) (b .args .k) (b .args .at) (length (b .args .out .now)) (b .args .work .now) (group-take-goes _ _ _ _ (b .pre .0)) (b .pre .1) _ (c .row-bytes .ensures))
 
 mul-take : tie.Need-mul-take
-mul-take c = omega (arith, take-small (c .before .before .before .before .before .args .t1) (c .before .before .before .before .before .args .k) (c .before .before .before .before .before .args .at) (length (c .before .before .before .before .before .args .out .now)) (c .before .before .before .before .before .args .work .now) (group-takes _ _ _ _ (c .before .before .before .before .before .pre .0)) (c .before .before .before .before .before .pre .1) _ (c .before .row-bytes .ensures))
+mul-take c =
+    let b = c .before .before .before .before .before in
+    omega (arith, take-small (b .args .t1) (b .args .k) (b .args .at) (length (b .args .out .now)) (b .args .work .now) (group-take-goes _ _ _ _ (b .pre .0)) (b .pre .1) _ (c .before .row-bytes .ensures))
 
 sub-take : tie.Need-sub-take
 sub-take c = search needs
@@ -38,7 +49,9 @@ part-take-start : tie.Need-part-take-start
 part-take-start c = search needs
 
 part-take-end : tie.Need-part-take-end
-part-take-end c = take-fits (c .before .before .before .before .before .args .t1) (c .before .before .before .before .before .args .k) (c .before .before .before .before .before .args .at) (length (c .before .before .before .before .before .args .out .now)) (c .before .before .before .before .before .args .work .now) (group-takes _ _ _ _ (c .before .before .before .before .before .pre .0)) (c .before .before .before .before .before .pre .1) _ (c .before .row-bytes .ensures)
+part-take-end c =
+    let b = c .before .before .before .before .before in
+    take-fits (b .args .t1) (b .args .k) (b .args .at) (length (b .args .out .now)) (b .args .work .now) (group-take-goes _ _ _ _ (b .pre .0)) (b .pre .1) _ (c .before .row-bytes .ensures)
 
 take-requires : tie.Need-take-requires
 take-requires c κs = search needs
@@ -47,10 +60,14 @@ taken-job-requires : tie.Need-taken-job-requires
 taken-job-requires c κs = search needs
 
 mul-next : tie.Need-mul-next
-mul-next c = omega (arith, take-within (c .before .before .before .before .before .before .before .before .before .before .before .before .args .t1) (c .before .before .before .before .before .before .before .before .before .before .before .before .args .k) (c .before .before .before .before .before .before .before .before .before .before .before .before .args .at) (length (c .before .before .before .before .before .before .before .before .before .before .before .before .args .out .now)) (c .before .before .before .before .before .before .before .before .before .before .before .before .args .work .now) (group-takes _ _ _ _ (c .before .before .before .before .before .before .before .before .before .before .before .before .pre .0)) (c .before .before .before .before .before .before .before .before .before .before .before .before .pre .1))
+mul-next c =
+    let b = c .before .before .before .before .before .before .before .before .before .before .before .before in
+    omega (arith, take-within (b .args .t1) (b .args .k) (b .args .at) (length (b .args .out .now)) (b .args .work .now) (group-take-goes _ _ _ _ (b .pre .0)) (b .pre .1))
 
 element-set-from-next : tie.Need-element-set-from-next
-element-set-from-next c = take-within (c .before .before .before .before .before .before .before .before .before .before .before .before .args .t1) (c .before .before .before .before .before .before .before .before .before .before .before .before .args .k) (c .before .before .before .before .before .before .before .before .before .before .before .before .args .at) (length (c .before .before .before .before .before .before .before .before .before .before .before .before .args .out .now)) (c .before .before .before .before .before .before .before .before .before .before .before .before .args .work .now) (group-takes _ _ _ _ (c .before .before .before .before .before .before .before .before .before .before .before .before .pre .0)) (c .before .before .before .before .before .before .before .before .before .before .before .before .pre .1)
+element-set-from-next c =
+    let b = c .before .before .before .before .before .before .before .before .before .before .before .before in
+    take-within (b .args .t1) (b .args .k) (b .args .at) (length (b .args .out .now)) (b .args .work .now) (group-take-goes _ _ _ _ (b .pre .0)) (b .pre .1)
 
 same-length : tie.Need-same-length
 same-length c = search needs
@@ -61,7 +78,7 @@ same-length-2 c = search needs
 returns : tie.Need-returns
 returns c =
     let a = c .before .before .before .before .before .before .before .before .before .before .before .before .args in
-    let o = group-takes _ _ _ _ (c .before .before .before .before .before .before .before .before .before .before .before .before .pre .0) in
+    let o = group-take-goes _ _ _ _ (c .before .before .before .before .before .before .before .before .before .before .before .before .pre .0) in
     let at = c .before .before .before .before .before .before .before .before .before .before .before .before .pre .1 in
     let half = c .before .before .before .before .before .before .before .before .row-bytes .ensures in
     let part = take-cut (a .t1) (a .k) (a .at) (length (a .out .now)) (a .work .now) o at _ half in

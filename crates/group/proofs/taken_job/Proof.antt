@@ -1,6 +1,6 @@
+-- The record of either answer. Assumes nothing.
 use mathlib.Core.Path.{sym, ap}
 use Rattle.job.specs.Answers.{takenJob}
-use borrow.Author.Needs.{needs}
 use borrow.Author.Needs.{needs}
 use Rattle.group.proofs.taken_job.Statement.{statement}
 use Rattle.group.proofs.taken_job.Tie as tie
