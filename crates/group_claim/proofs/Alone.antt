@@ -1,6 +1,6 @@
 -- A job alone that is lent exactly its work values, and lists of its calls. Assumes nothing.
-use Prim.Native.Nat.{ℕ, _+_, _*_, _≤_, _<_}
-use mathlib.Core.Path.{_≡_, refl, sym, _∙_, ap, ap₂}
+use Prim.Native.Nat.{ℕ, _+_, _*_}
+use mathlib.Core.Path.{_≡_, refl, _∙_, ap, ap₂}
 use mathlib.Core.List.{List, [], _∷_, _++_, append-nil}
 use mathlib.Core.Logic.{⊎-elim}
 use native.Mathlib.Omega.{arith}
@@ -13,11 +13,9 @@ use Rattle.job_rules.specs.declared.Plan.{Plan}
 use Rattle.job_rules.specs.Rules.{lanesOf}
 use Rattle.job.specs.declared.Job.{Job}
 use Rattle.job.specs.Calls as job
-use Rattle.job.proofs.Views.{offer-view, take-view}
+use Rattle.job.proofs.Views.{take-view}
 use Rattle.job_claim.specs.Calls.{Call, Offer, Take, Seen, Run, seenOffer, seenTake, step, run}
 use Rattle.group_claim.specs.Claim.{AllGo}
-use Rattle.job_claim.proofs.Reading.{shape-of}
-use Rattle.job_claim.proofs.Feeding.{fed-length}
 use Rattle.job_claim.proofs.Taking.{left-length}
 
 pub same-run : (a b : Run) → a .job ≡ b .job → a .work ≡ b .work → a .seen ≡ b .seen → a ≡ b
@@ -25,16 +23,7 @@ same-run a b e f g =
     ap₂ (λ (x : Job) (y : List ℕ). record { job = x; work = y; seen = a .seen }) e f
     ∙ ap (λ (z : Seen). record { job = b .job; work = b .work; seen = z }) g
 
--- ---- calls keep the length of the work values
-pub offer-length : (j : Job) (rows w : List ℕ) → length (job.offerWork j rows w) ≡ length w
-offer-length j rows w =
-    ⊎-elim
-    (λ t. ap length (t .kept))
-    (λ q.
-      let shape = shape-of (j .plan) (j .accepted) (j .taken) (j .flag) (q .rules) in
-      ap length (q .work-after) ∙ fed-length (j .plan) shape (q .rules .sizes) rows _ _ w (q .room))
-    (offer-view j rows w)
-
+-- ---- a take keeps the length of the work values
 pub take-length : (j : Job) (out w : List ℕ) → length (job.takeWork j (length out) w) ≡ length w
 take-length j out w = ⊎-elim (λ t. ap length (t .kept)) (λ q. ap length (q .work-after) ∙ left-length j w (q .room)) (take-view j out w)
 

@@ -2,11 +2,11 @@
 use Prim.Native.Nat.{ℕ, _+_, _-_, _/_, _%_, _≤_, _<_, min}
 use mathlib.Core.Path.{_≡_, refl, sym, _∙_, ap, ap₂, subst}
 use mathlib.Core.List.{List}
-use mathlib.Core.Bool.{Bool, true, false, not, _||_, _&&_, or-true, true≢false}
+use mathlib.Core.Bool.{Bool, true, false, not, _&&_, or-true, true≢false}
 use mathlib.Core.Logic.{_⊎_, inl, inr}
 use native.Mathlib.Omega.{arith}
 use lib.Dec.{eqb, leb, ltb}
-use lib.ListN.{length, take, drop}
+use lib.ListN.{length, take}
 use borrow.Author.Tests.{eq-eqb, ne-eqb, le-ltb, lt-ltb, le-leb, lt-leb, eqb-true, eqb-false}
 use Rattle.arithmetic.proofs.Orders.{le-or-lt}
 use Rattle.pixels.specs.Sizes.{rowBytes}
@@ -17,7 +17,7 @@ use Rattle.job_rules.specs.declared.Plan.{Plan}
 use Rattle.job_rules.specs.Rules.{lanesOf, R, badRows}
 use Rattle.job_rules.proofs.Rules.{rules-good}
 use Rattle.job.specs.declared.Job.{Job}
-use Rattle.job.specs.Record.{lawful, readyOf, Rules}
+use Rattle.job.specs.Record.{lawful, readyOf}
 use Rattle.job.specs.Calls as job
 use Rattle.job.proofs.Ready.{ready-some}
 use Rattle.job.proofs.Views.{whole-good}
@@ -26,11 +26,11 @@ use Rattle.job_claim.proofs.Invariant.{some-lent}
 use Rattle.group_rules.specs.declared.Group.{Group}
 use Rattle.group_rules.specs.Group.{groupLimit, jobAt, planAt, every, some, total, alike, differing, tooMany, groupLawful, groupOf}
 use Rattle.group_rules.specs.Tests.{readyAt, someReady, lacks, groupOfferCauses, groupOfferNumber, groupTakeCauses, groupTakeNumber}
+use Rattle.group_rules.proofs.Jobs.{every-of, some-none, some-of, some-found}
 use Rattle.group.specs.Calls.{mostRows, groupCount, groupOfferRows, groupReady}
-use Rattle.group_claim.specs.Calls.{GroupRun, OfferAll, TakeOf, groupStep, offerNumber, offerRows, takeNumber, takeOut}
-use Rattle.group_claim.specs.Claim.{planIn, RightOffer, RightTake, ShortWork, Ready, NoneReady, SomeReady, Smallest, GroupClaim}
-use Rattle.group_claim.proofs.Jobs.{every-all, some-none, none-some, some-one}
-use Rattle.group_claim.proofs.Going.{count-most, count-some, count-stop, count-low}
+use Rattle.group.proofs.Counted.{count-most, count-some, count-stop, count-low}
+use Rattle.group_claim.specs.Calls.{GroupRun, offerNumber, offerRows, takeNumber}
+use Rattle.group_claim.specs.Claim.{planIn, RightOffer, ShortWork, Ready, NoneReady, SomeReady, Smallest, GroupClaim}
 use Rattle.group_claim.proofs.Stepping.{offer-same, take-same, take-out-same}
 use Rattle.group_claim.proofs.Projecting.{total-kept}
 use Rattle.group_claim.proofs.Standing.{counted, Standing}
@@ -43,7 +43,7 @@ differing-kept js ks n h e =
     let unlike : ℕ → Bool = λ i. not (alike (planAt js 0) (planAt js i)) in
     let before : ℕ → Bool = λ i. not (alike (planAt ks 0) (planAt ks i)) in
     let none : some unlike n ≡ false =
-    none-some unlike n (λ i l. ap₂ (λ (p q : Plan). not (alike p q)) (h 0) (h i) ∙ some-none before n i (a .1) l) in
+    some-of unlike n (λ i l. ap₂ (λ (p q : Plan). not (alike p q)) (h 0) (h i) ∙ some-none before n i (a .1) l) in
     simp (a .0, none)
 
 -- ---- lengths that are not right
@@ -93,7 +93,7 @@ module _ (plans : List Plan) (count : ℕ) (work : List ℕ) (r : GroupRun) (v :
       let one-source : differing js (g .count) ≡ false =
       ap (λ (n : ℕ). differing js n) (v .count-is) ∙ differing-kept js (groupOf plans count .jobs) count (v .plan-is) (v .same-source) in
       let each : every (λ i. lawful (jobAt js i) && eqb (jobAt js i .accepted) (jobAt js 0 .accepted)) (g .count) ≡ true =
-      every-all (λ i. lawful (jobAt js i) && eqb (jobAt js i .accepted) (jobAt js 0 .accepted)) (g .count) lawful-so in
+      every-of (λ i. lawful (jobAt js i) && eqb (jobAt js i .accepted) (jobAt js 0 .accepted)) (g .count) lawful-so in
       simp (few, one-source, each)
 
   lawful-passes : not (groupLawful g) ≡ false
@@ -108,14 +108,14 @@ module _ (plans : List Plan) (count : ℕ) (work : List ℕ) (r : GroupRun) (v :
   -- ---- who has a row ready
   pub none-at : (k : ℕ) → NoneReady plans count r k → someReady js (g .count) k ≡ false
   none-at k h =
-      none-some (λ i. readyAt (jobAt js i) k) (g .count)
+      some-of (λ i. readyAt (jobAt js i) k) (g .count)
       (λ i l.
-        let m : i < count = omega (arith, v .count-is) in
-        ap (λ (j : Job). readyAt j k) (v .job-is i m) ∙ le-ltb (r .seen i .taken) (R (planIn plans count i) k) (h i m))
+      let m : i < count = omega (arith, v .count-is) in
+      ap (λ (j : Job). readyAt j k) (v .job-is i m) ∙ le-ltb (r .seen i .taken) (R (planIn plans count i) k) (h i m))
 
   pub some-at : (k : ℕ) → SomeReady plans count r k → someReady js (g .count) k ≡ true
   some-at k (i, m, h) =
-      some-one (λ i. readyAt (jobAt js i) k) (g .count) i (omega (arith, v .count-is))
+      some-found (λ i. readyAt (jobAt js i) k) (g .count) i (omega (arith, v .count-is))
       (ap (λ (j : Job). readyAt j k) (v .job-is i m) ∙ lt-ltb (r .seen i .taken) (R (planIn plans count i) k) h)
 
   -- ---- an offer
@@ -196,7 +196,9 @@ module _ (plans : List Plan) (count : ℕ) (work : List ℕ) (r : GroupRun) (v :
 
           -- no job has a row ready before the last of them, and one has at it, where it stops short
           low : (i : ℕ) → i < rows-in → someReady js (g .count) (r .seen 0 .accepted + i) ≡ false
-          low i m = ap (λ (k : ℕ). someReady js (g .count) (k + i)) (sym accepted-is) ∙ count-low g (length rows) quiet i m
+          low i m =
+              let z : jobAt js 0 .accepted + 0 ≡ jobAt js 0 .accepted = omega arith in
+              ap (λ (k : ℕ). someReady js (g .count) (k + i)) (sym accepted-is) ∙ count-low g (length rows) (rw z quiet) i m
 
           stops : rows-in < min lent-rows remaining → NoneReady plans count r (r .seen 0 .accepted + rows-in) → ⊥
           stops m none =

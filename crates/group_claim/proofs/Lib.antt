@@ -1,5 +1,3 @@
-pub mod Jobs
-pub mod Going
 pub mod Alone
 pub mod Stepping
 pub mod OfferSteps
@@ -9,3 +7,4 @@ pub mod Starting
 pub mod Standing
 pub mod Claims
 pub mod Theorem
+pub mod Trials

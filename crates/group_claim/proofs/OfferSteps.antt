@@ -1,8 +1,8 @@
 -- A group's offer that accepts rows: each job's own offer of exactly those rows. Assumes nothing.
 use Prim.Native.Nat.{ℕ, _+_, _*_, _≤_, _<_, min}
-use mathlib.Core.Path.{_≡_, refl, sym, _∙_, ap, subst}
+use mathlib.Core.Path.{_≡_, sym, _∙_, ap, subst}
 use mathlib.Core.List.{List, [], _∷_, _++_}
-use mathlib.Core.Logic.{_⊎_, inl, inr, ⊎-elim}
+use mathlib.Core.Logic.{_⊎_, ⊎-elim}
 use native.Mathlib.Omega.{arith}
 use lib.ListN.{length, take, drop, length-take, take-append-drop}
 use lib.Seq.{take-all, take-take, length-front, drop-append-le}
@@ -19,12 +19,13 @@ use Rattle.group_parts.specs.Parts.{offset, partAt, eachPart}
 use Rattle.group_parts.proofs.Cutting.{offset-next, part-cong, part-append, part-within, part-long, each-part, each-length, each-rest}
 use Rattle.group_rules.specs.declared.Group.{Group}
 use Rattle.group_rules.specs.Group.{jobAt, planAt, eachJob, needs, total}
+use Rattle.group_rules.proofs.Jobs.{jobs-long, job-beyond, job-changed}
 use Rattle.group.specs.Calls.{groupCount, groupOfferRows, fedRows, withJobs, groupOffered, groupOfferWork}
-use Rattle.group_claim.specs.Calls.{GroupCall, OfferAll, GroupRun, groupStep, alone, called, offerNumber, offerRows}
+use Rattle.group.proofs.Kept.{offer-length}
+use Rattle.group.proofs.Going.{Goes, goes, fed-long, same-stride, alone-goes, alone-count}
+use Rattle.group_claim.specs.Calls.{OfferAll, GroupRun, groupStep, alone, called, offerNumber, offerRows}
 use Rattle.group_claim.specs.Claim.{AllGo}
-use Rattle.group_claim.proofs.Jobs.{jobs-long, job-beyond, job-changed}
-use Rattle.group_claim.proofs.Going.{Goes, goes, fed-long, alone-goes, alone-count, bytes-same}
-use Rattle.group_claim.proofs.Alone.{same-run, offer-length, offer-rows-is, offer-job-is, seen-same, offer-alone, run-one}
+use Rattle.group_claim.proofs.Alone.{same-run, offer-rows-is, offer-job-is, seen-same, offer-alone, run-one}
 use Rattle.group_claim.proofs.Stepping.{Stepped}
 
 module _ (r : GroupRun) (long : r .group .count ≤ length (r .group .jobs)) (rows : List ℕ) (lent : ℕ) (e : offerNumber r rows lent ≡ 0) where
@@ -78,16 +79,16 @@ module _ (r : GroupRun) (long : r .group .count ≤ length (r .group .jobs)) (ro
   plans k =
       ap (λ (x : List Job). planAt x k) next-jobs
       ∙ ⊎-elim
-        (λ b. ap (λ (x : Job). x .plan) (job-beyond (λ j. moreAccepted j rows-in) (g .count) k js b))
-        (λ l. ap (λ (x : Job). x .plan) (job-changed (λ j. moreAccepted j rows-in) (g .count) k js long l))
-        (le-or-lt (g .count) k)
+      (λ b. ap (λ (x : Job). x .plan) (job-beyond (λ j. moreAccepted j rows-in) (g .count) k js b))
+      (λ l. ap (λ (x : Job). x .plan) (job-changed (λ j. moreAccepted j rows-in) (g .count) k js long l))
+      (le-or-lt (g .count) k)
 
   job-then : (i : ℕ) → i < g .count → jobAt (next .group .jobs) i ≡ job.offerJob (jobAt js i) (length fed) (needs js i)
   job-then i l =
       ap (λ (x : List Job). jobAt x i) next-jobs
       ∙ job-changed (λ j. moreAccepted j rows-in) (g .count) i js long l
       ∙ sym (offer-job-is (jobAt js i) (length fed) (needs js i) (alone-goes g rows (length lent-work) went i l)
-        ∙ ap (λ (c : ℕ). moreAccepted (jobAt js i) c) (alone-count g rows (length lent-work) went i l))
+      ∙ ap (λ (c : ℕ). moreAccepted (jobAt js i) c) (alone-count g rows (length lent-work) went i l))
 
   -- ---- the work values
   keeps : (i : ℕ) (x : List ℕ) → length x ≡ needs js i → length (own i x) ≡ needs js i
@@ -132,29 +133,30 @@ module _ (r : GroupRun) (long : r .group .count ≤ length (r .group .jobs)) (ro
         let theirs : ℕ = rowBytes (lanesOf (planAt js 0)) (planAt js 0 .source .width) * rows-in in
         next-seen i
         ∙ seen-same (planAt js i) (r .seen i) rows fed rows-in (job.offerRows (jobAt js i) (length fed) (needs js i)) (sym all-rows)
-          (sym (take-take mine theirs rows (omega (arith, bytes-same g rows (length lent-work) went i l))))
+        (sym (take-take mine theirs rows (omega (arith, ap (λ (x : ℕ). x * rows-in) (same-stride g rows (length lent-work) went i l)))))
 
     alone-then : alone i next ≡ run (planAt js i) (alone i r) (called i r (OfferAll rows lent))
     alone-then =
         same-run _ _ (job-then i l) part-then seen-then
         ∙ sym (ap (λ (x : List Call). run (planAt js i) (alone i r) x) (called-then i)
-          ∙ run-one (planAt js i) (alone i r) (Offer fed (needs js i))
-          ∙ offer-alone (planAt js i) (alone i r) (needs js i) part-whole fed)
+        ∙ run-one (planAt js i) (alone i r) (Offer fed (needs js i))
+        ∙ offer-alone (planAt js i) (alone i r) (needs js i) part-whole fed)
 
     -- all of it goes through, and every row is accepted
     lent-all : length (take (needs js i) (partAt (needs js) i (r .work))) ≡ needs js i
     lent-all = ap length (take-all (needs js i) (partAt (needs js) i (r .work)) (omega (arith, part-whole))) ∙ part-whole
 
     all-bytes : rowBytes (lanesOf (planAt js i)) (planAt js i .source .width) * rows-in ≡ length fed
-    all-bytes = bytes-same g rows (length lent-work) went i l ∙ sym (fed-long g rows (length lent-work) went)
+    all-bytes = ap (λ (x : ℕ). x * rows-in) (same-stride g rows (length lent-work) went i l) ∙ sym (fed-long g rows (length lent-work) went)
 
     all-go : AllGo (planAt js i) (alone i r) (called i r (OfferAll rows lent))
     all-go =
         let row : ℕ = rowBytes (lanesOf (planAt js i)) (planAt js i .source .width) in
-        subst (λ (x : List Call). AllGo (planAt js i) (alone i r) x) (sym (called-then i))
-        (ap (λ (x : ℕ). job.offerNumber (jobAt js i) (length fed) x) lent-all ∙ alone-goes g rows (length lent-work) went i l,
+        subst (λ (x : List Call). AllGo (planAt js i) (alone i r) x) (sym (called-then i)) (
+          ap (λ (x : ℕ). job.offerNumber (jobAt js i) (length fed) x) lent-all ∙ alone-goes g rows (length lent-work) went i l,
           ap (λ (x : ℕ). row * job.offerRows (jobAt js i) (length fed) x) lent-all ∙ ap (λ (x : ℕ). row * x) all-rows ∙ all-bytes,
-          tt)
+          tt,
+        )
 
   pub offer-accepted : Stepped r (groupStep r (OfferAll rows lent)) (OfferAll rows lent)
   offer-accepted = record {

@@ -1,34 +1,26 @@
 -- Where a list of a group's calls has led: the group meets the rules, its record is what was counted, and its tests are those of what was counted. Assumes nothing.
-use Prim.Native.Nat.{ℕ, _+_, _-_, _/_, _≤_, _<_, min}
-use mathlib.Core.Path.{_≡_, refl, sym, _∙_, ap, ap₂, subst}
+use Prim.Native.Nat.{ℕ, _-_, _≤_, _<_}
+use mathlib.Core.Path.{_≡_, sym, _∙_, ap, ap₂, subst}
 use mathlib.Core.List.{List}
-use mathlib.Core.Bool.{Bool, true, false, not, _&&_}
+use mathlib.Core.Bool.{false}
 use native.Mathlib.Omega.{arith}
-use lib.Dec.{eqb, ltb}
 use lib.ListN.{length, drop}
-use borrow.Author.Tests.{eq-eqb, le-ltb, lt-ltb}
-use Rattle.pixels.specs.Sizes.{rowBytes}
-use Rattle.pixels.proofs.Truths.{neither-true}
 use Rattle.job_rules.specs.declared.Plan.{Plan}
-use Rattle.job_rules.specs.Rules.{Formed, lanesOf, R}
-use Rattle.job_rules.proofs.Rules.{rules-good}
+use Rattle.job_rules.specs.Rules.{Formed}
 use Rattle.job.specs.declared.Job.{Job}
-use Rattle.job.specs.Record.{lawful, Rules}
-use Rattle.job.specs.Calls as job
+use Rattle.job.specs.Record.{Rules}
 use Rattle.job_claim.specs.Calls.{Seen, Run, run, begun}
 use Rattle.job_claim.specs.Claim.{Claim}
 use Rattle.job_claim.proofs.Invariant as invariant
 use Rattle.job_claim.proofs.Invariant.{run-kept, begun-kept}
 use Rattle.job_claim.proofs.Theorem.{demand-3}
-use Rattle.group_rules.specs.declared.Group.{Group}
-use Rattle.group_rules.specs.Group.{groupLimit, spare, jobAt, planAt, every, some, total, alike, differing, tooMany, groupLawful, groupOf}
-use Rattle.group_rules.specs.Tests.{readyAt, someReady, groupStartNumber}
-use Rattle.group.specs.Calls.{mostRows}
+use Rattle.group_rules.specs.Group.{groupLimit, spare, jobAt, planAt, total, differing, groupOf}
+use Rattle.group_rules.specs.Tests.{groupStartNumber}
+use Rattle.group_rules.proofs.Alike.{jobs-there}
 use Rattle.group_claim.specs.Calls.{GroupCall, GroupRun, groupRun, groupBegun, alone, callsOf}
 use Rattle.group_claim.specs.Claim.{planIn, partIn, AllGo, AsAlone}
-use Rattle.group_claim.proofs.Jobs.{every-all, some-none, none-some, some-one, Together, together-of}
 use Rattle.group_claim.proofs.Projecting.{Projected, projects, Kept, keeps, total-kept}
-use Rattle.group_claim.proofs.Starting.{Starts, starts, began-group, began-count, began-plan, began-beyond, began-long, began-work-long, began-rest, part-lent, start-accepted, began-alone}
+use Rattle.group_claim.proofs.Starting.{Starts, starts, began-count, began-plan, began-beyond, began-long, began-work-long, began-rest, start-accepted, began-alone}
 
 -- the record of what was counted of a job
 abbrev pub counted : Plan → Seen → Job
@@ -99,7 +91,7 @@ standing plans count work e calls =
     ∙ total-kept (first .group .jobs) (groupOf plans count .jobs) (began-plan plans count work e) count in
     record {
       few = o .few;
-      some-job = together-of (groupOf plans count .jobs) count (o .same-source) .some-job;
+      some-job = omega (arith, jobs-there (groupOf plans count .jobs) count (o .same-source));
       count-is = k .count-kept ∙ began-count plans count work e;
       plan-is = λ i. k .plans-kept i ∙ began-plan plans count work e i;
       beyond-is = λ i l. k .beyond-kept i (omega (arith, began-count plans count work e)) ∙ began-beyond plans count work e i l;

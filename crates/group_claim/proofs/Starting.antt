@@ -1,35 +1,32 @@
 -- A group's start that is not turned away: each job is as its own start would have left it, with its own part of the work values. Assumes nothing.
-use Prim.Native.Nat.{ℕ, zero, suc, _+_, _-_, _≤_, _<_, min}
+use Prim.Native.Nat.{ℕ, zero, suc, _+_, _-_, _≤_, _<_}
 use mathlib.Core.Path.{_≡_, refl, sym, _∙_, ap, ap₂, subst}
-use mathlib.Core.List.{List, [], _∷_, _++_, append-nil}
-use mathlib.Core.Bool.{Bool, true, false}
-use mathlib.Core.Logic.{_⊎_, inl, inr, ⊎-elim}
+use mathlib.Core.List.{List, _++_, append-nil}
+use mathlib.Core.Bool.{false}
 use native.Mathlib.Omega.{arith}
-use native.Mathlib.Nat.{eq-or-lt-of-le, le-of-suc-le-suc}
-use lib.ListN.{length, getD, take, drop, set, replicate, length-set, length-replicate, length-append, length-drop, replicate-append-replicate, drop-of-length-le}
-use lib.Seq.{take-at, drop-at, getD-set-same, getD-set-other}
+use lib.ListN.{length, getD, take, drop, set, replicate, length-replicate, length-append, length-drop, replicate-append-replicate, drop-of-length-le}
+use lib.Seq.{take-at, drop-at, getD-set-other}
 use borrow.Author.Tests.{eq-eqb, ltb-false, le-ltb}
-use Rattle.pixels.specs.Sizes.{workValues, badSizes, badLanes, cropBeyond}
+use Rattle.pixels.specs.Sizes.{badSizes, badLanes, cropBeyond}
 use Rattle.pixels.proofs.Causes.{first-none, none-applies}
-use Rattle.job_rules.specs.declared.Kind.{Kind}
-use Rattle.job_rules.specs.declared.Kind.the-variants.{Picture, Plane}
 use Rattle.job_rules.specs.declared.Plan.{Plan}
 use Rattle.job_rules.specs.Rules as rules
 use Rattle.job_rules.specs.Rules.{lanesOf, Formed, startNumber}
 use Rattle.job.specs.declared.Job.{Job}
 use Rattle.job.specs.Record.{fresh}
-use Rattle.job_start.specs.Start.{cleared, startWork}
+use Rattle.job_start.specs.Start.{startWork}
 use Rattle.job_start.proofs.Starting.{start-went}
-use Rattle.job_claim.specs.Calls.{Run, nothing, begun}
+use Rattle.job_claim.specs.Calls.{nothing, begun}
 use Rattle.group_parts.specs.Parts.{offset, partAt}
 use Rattle.group_parts.proofs.Cutting.{offset-next, part-append, part-long}
 use Rattle.group_rules.specs.declared.Group.{Group}
-use Rattle.group_rules.specs.Group.{groupLimit, spare, jobAt, planAt, givenAt, needs, total, differing, formed, formedBy, looked, freshJobs, groupOf}
+use Rattle.group_rules.specs.Group.{groupLimit, spare, jobAt, planAt, givenAt, needs, total, differing, formed, looked, freshJobs, groupOf}
 use Rattle.group_rules.specs.Tests.{startCauses, groupStartNumber}
+use Rattle.group_rules.proofs.Jobs.{some-none}
+use Rattle.group_rules.proofs.Forming.{fresh-none, fresh-long, fresh-at, formed-so}
 use Rattle.group_start.specs.Start.{groupStarted, groupStartWork}
-use Rattle.group_claim.specs.Calls.{GroupRun, groupBegun, alone}
+use Rattle.group_claim.specs.Calls.{groupBegun, alone}
 use Rattle.group_claim.specs.Claim.{planIn, partIn}
-use Rattle.group_claim.proofs.Jobs.{some-none}
 
 -- ---- the jobs that a start forms
 
@@ -40,37 +37,17 @@ getD-alike (suc n) zero = refl
 getD-alike (suc n) (suc k) = getD-alike n k
 
 module _ (plans : List Plan) where
-  fresh-zero : freshJobs plans 0 ≡ replicate groupLimit spare
-  unfolding freshJobs
-  fresh-zero = refl
-
   fresh-next : (i : ℕ) → freshJobs plans (suc i) ≡ set (freshJobs plans i) i (fresh (formed (givenAt plans i)))
   unfolding freshJobs
   fresh-next i = refl
 
-  pub fresh-long : (n : ℕ) → length (freshJobs plans n) ≡ groupLimit
-  fresh-long zero = ap length fresh-zero ∙ length-replicate groupLimit spare
-  fresh-long (suc n) = ap length (fresh-next n) ∙ length-set (freshJobs plans n) n (fresh (formed (givenAt plans n))) ∙ fresh-long n
-
-  pub fresh-at : (n k : ℕ) → n ≤ groupLimit → k < n → jobAt (freshJobs plans n) k ≡ fresh (formed (givenAt plans k))
-  fresh-at zero k h l = absurd (omega arith)
-  fresh-at (suc n) k h l =
-      ap (λ (x : List Job). jobAt x k) (fresh-next n)
-      ∙ ⊎-elim
-        (λ q. rw q (getD-set-same (freshJobs plans n) n (fresh (formed (givenAt plans n))) spare (rw (fresh-long n) (omega arith))))
-        (λ m. getD-set-other (freshJobs plans n) n k (fresh (formed (givenAt plans n))) spare (omega arith) ∙ fresh-at n k (omega arith) m)
-        (eq-or-lt-of-le (le-of-suc-le-suc l))
-
+  -- none stands beyond them
   pub fresh-beyond : (n k : ℕ) → n ≤ k → jobAt (freshJobs plans n) k ≡ spare
-  fresh-beyond zero k l = ap (λ (x : List Job). jobAt x k) fresh-zero ∙ getD-alike groupLimit k
+  fresh-beyond zero k l = ap (λ (x : List Job). jobAt x k) (fresh-none plans) ∙ getD-alike groupLimit k
   fresh-beyond (suc n) k l =
       ap (λ (x : List Job). jobAt x k) (fresh-next n)
       ∙ getD-set-other (freshJobs plans n) n k (fresh (formed (givenAt plans n))) spare (omega arith)
       ∙ fresh-beyond n k (omega arith)
-
-formed-by : (kind : Kind) (p : Plan) → Formed (formedBy kind p)
-formed-by Picture p = inl refl
-formed-by Plane p = inr refl
 
 abbrev zeros : ℕ → List ℕ
 zeros n = replicate n 0
@@ -110,7 +87,7 @@ starts plans count w e =
       room = subst (λ (n : ℕ). total js n ≤ w) all (ltb-false w (total js (looked count)) (q .1 .1 .1 .1 .1 .0));
       same-source = ap (λ (n : ℕ). differing js n) (sym all) ∙ q .1 .1 .1 .0;
       job-is = λ i l. at i l ∙ ap fresh (sym (ap (λ (j : Job). j .plan) (at i l)));
-      formed-so = λ i l. subst Formed (sym (ap (λ (j : Job). j .plan) (at i l))) (formed-by (givenAt plans i .kind) (givenAt plans i));
+      formed-so = λ i l. subst Formed (sym (ap (λ (j : Job). j .plan) (at i l))) (formed-so (givenAt plans i));
       accepted = λ i l.
           let m : i < looked count = omega arith in
           let sizes = some-none (λ i. badSizes (planAt js i .source) (planAt js i .crop) (planAt js i .target)) (looked count) i (q .0) m in
@@ -155,8 +132,8 @@ module _ (plans : List Plan) (count : ℕ) (work : List ℕ) (e : groupStartNumb
       ap length began-work
       ∙ length-append (zeros (total js count)) (drop (total js count) work)
       ∙ (let a : length (zeros (total js count)) ≡ total js count = length-replicate (total js count) 0 in
-        let b = length-drop (total js count) work in
-        omega (arith, a, b, o .room))
+      let b = length-drop (total js count) work in
+      omega (arith, a, b, o .room))
 
   pub began-rest : drop (total js count) (groupStartWork plans count work) ≡ drop (total js count) work
   began-rest =

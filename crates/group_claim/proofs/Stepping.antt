@@ -1,15 +1,12 @@
 -- What one group call comes to, for the group and for each of its jobs; and a call that is turned away. Assumes nothing.
 use Prim.Native.Nat.{ℕ, _+_, _≤_, _<_}
 use mathlib.Core.Path.{_≡_, refl, sym, _∙_, ap, ap₂}
-use mathlib.Core.List.{List, [], _∷_, _++_}
+use mathlib.Core.List.{List, [], _++_}
 use mathlib.Core.Bool.{Bool, true, false, cond}
 use native.Mathlib.Omega.{arith}
 use lib.Dec.{eqb}
 use lib.ListN.{length, take, drop, take-append-drop}
-use Rattle.job_rules.specs.declared.Plan.{Plan}
-use Rattle.job_rules.specs.Rules.{lanesOf}
-use Rattle.job.specs.declared.Job.{Job}
-use Rattle.job_claim.specs.Calls.{Call, Seen, Run, seenTake, run}
+use Rattle.job_claim.specs.Calls.{Call, Seen, run}
 use Rattle.group_parts.specs.Parts.{partAt}
 use Rattle.group_rules.specs.declared.Group.{Group}
 use Rattle.group_rules.specs.Group.{jobAt, planAt, needs, total}
@@ -79,6 +76,10 @@ module _ (r : GroupRun) (rows : List ℕ) (lent : ℕ) (e : eqb (offerNumber r r
   pub offer-dropped : Stepped r (groupStep r (OfferAll rows lent)) (OfferAll rows lent)
   offer-dropped = stays r (groupStep r (OfferAll rows lent)) (OfferAll rows lent) offer-same called-none
 
+either-same : (b : Bool) (s : Seen) → cond b s s ≡ s
+either-same true s = refl
+either-same false s = refl
+
 module _ (r : GroupRun) (k : ℕ) (out : List ℕ) (lent : ℕ) (e : eqb (takeNumber r k out lent) 0 ≡ false) where
   take-group-same : groupTaken (r .group) k (length out) (take lent (r .work)) ≡ r .group
   unfolding groupTaken
@@ -92,16 +93,16 @@ module _ (r : GroupRun) (k : ℕ) (out : List ℕ) (lent : ℕ) (e : eqb (takeNu
   unfolding groupTakeOut
   take-out-same = simp e
 
-  take-seen-none : (b f : Bool) (s : Seen) (o : List ℕ) → cond b (seenTake s (takeNumber r k out lent) o f) s ≡ s
-  take-seen-none true f s o = simp e
-  take-seen-none false f s o = refl
+  take-seen-same : (i : ℕ) → groupStep r (TakeOf k out lent) .seen i ≡ r .seen i
+  unfolding groupStep
+  take-seen-same i = simp (e, either-same)
 
   pub take-same : Same (groupStep r (TakeOf k out lent)) r
   unfolding groupStep
   take-same = record {
     group = take-group-same;
     work = ap (λ (z : List ℕ). z ++ drop lent (r .work)) take-work-same ∙ take-append-drop lent (r .work);
-    seen = λ i. take-seen-none (eqb i k) _ (r .seen i) _;
+    seen = take-seen-same;
   }
 
   take-called-none : (i : ℕ) → called i r (TakeOf k out lent) ≡ []

@@ -1,5 +1,5 @@
 -- A group's take that succeeds: the named job's own take, and nothing of the others. Assumes nothing.
-use Prim.Native.Nat.{ℕ, _+_, _-_, _*_, _≤_, _<_, min}
+use Prim.Native.Nat.{ℕ, _+_, _-_, _≤_, _<_, min}
 use mathlib.Core.Path.{_≡_, refl, sym, _∙_, ap, ap₂, subst}
 use mathlib.Core.List.{List, [], _∷_, _++_}
 use mathlib.Core.Bool.{Bool, true, false, cond}
@@ -24,9 +24,9 @@ use Rattle.group_parts.proofs.Cutting.{offset-next, part-cong, part-append, par
 use Rattle.group_rules.specs.declared.Group.{Group}
 use Rattle.group_rules.specs.Group.{spare, jobAt, planAt, needs, total}
 use Rattle.group.specs.Calls.{withJobs, groupTaken, groupTakeOut, groupTakeWork}
-use Rattle.group_claim.specs.Calls.{GroupCall, TakeOf, GroupRun, groupStep, alone, called, takeNumber, takeOut}
+use Rattle.group.proofs.Going.{TakeGoes, group-takes, alone-takes}
+use Rattle.group_claim.specs.Calls.{TakeOf, GroupRun, groupStep, alone, called, takeNumber, takeOut}
 use Rattle.group_claim.specs.Claim.{AllGo}
-use Rattle.group_claim.proofs.Going.{TakeGoes, take-goes-group, take-alone-goes}
 use Rattle.group_claim.proofs.Alone.{same-run, take-length, take-alone, run-none, run-one}
 use Rattle.group_claim.proofs.Stepping.{Stepped}
 
@@ -71,7 +71,7 @@ module _ (r : GroupRun) (long : r .group .count ≤ length (r .group .jobs)) (k 
   next = groupStep r (TakeOf k out lent)
 
   took : TakeGoes g k (length out) (length lent-work)
-  took = take-goes-group g k (length out) (length lent-work) e
+  took = group-takes g k (length out) (length lent-work) e
 
   lent-long : length lent-work ≡ min lent (length (r .work))
   lent-long = length-take lent (r .work)
@@ -185,7 +185,7 @@ module _ (r : GroupRun) (long : r .group .count ≤ length (r .group .jobs)) (k 
   next-seen i = refl
 
   number-alone : job.takeNumber (jobAt js k) (length out) (length mine) ≡ 0
-  number-alone = ap (λ (x : ℕ). job.takeNumber (jobAt js k) (length out) x) mine-long ∙ take-alone-goes g k (length out) (length lent-work) took
+  number-alone = ap (λ (x : ℕ). job.takeNumber (jobAt js k) (length out) x) mine-long ∙ alone-takes g k (length out) (length lent-work) took
 
   seen-mine : next .seen k ≡ seenTake (r .seen k) (job.takeNumber (jobAt js k) (length out) (length mine)) (job.takeOut (jobAt js k) out mine) (after .flag)
   seen-mine =
@@ -213,14 +213,14 @@ module _ (r : GroupRun) (long : r .group .count ≤ length (r .group .jobs)) (k 
       let there = put-there (offset (needs js) k) (needs js k) lent-work left (omega (arith, lent-in)) left-long in
       same-run _ _ job-taken (part-now k (took .named) ∙ there) seen-mine
       ∙ sym (ap (λ (x : List Call). run (planAt js k) (alone k r) x) called-same
-        ∙ run-one (planAt js k) (alone k r) (Take out (needs js k))
-        ∙ take-alone (planAt js k) (alone k r) (needs js k) mine-long out)
+      ∙ run-one (planAt js k) (alone k r) (Take out (needs js k))
+      ∙ take-alone (planAt js k) (alone k r) (needs js k) mine-long out)
 
   all-go-same : AllGo (planAt js k) (alone k r) (called k r (TakeOf k out lent))
   all-go-same =
       let all-lent = ap length (take-all (needs js k) mine (omega (arith, mine-long))) ∙ mine-long in
       subst (λ (x : List Call). AllGo (planAt js k) (alone k r) x) (sym called-same)
-      (ap (λ (x : ℕ). job.takeNumber (jobAt js k) (length out) x) all-lent ∙ take-alone-goes g k (length out) (length lent-work) took, tt)
+      (ap (λ (x : ℕ). job.takeNumber (jobAt js k) (length out) x) all-lent ∙ alone-takes g k (length out) (length lent-work) took, tt)
 
   -- ---- the others
   module _ (i : ℕ) (l : i < g .count) where

@@ -1,7 +1,7 @@
 -- A list of a group's calls, and for each job the list of calls that it has alone (SCOPE, "Groups"). The answers are the definitions that stand in the contracts of
 -- start_group, offer_group and take_group. Assumes nothing.
 use Prim.Native.Nat.{ℕ}
-use mathlib.Core.Bool.{Bool, cond, _&&_}
+use mathlib.Core.Bool.{cond, _&&_}
 use mathlib.Core.List.{List, [], _∷_, _++_}
 use lib.Dec.{eqb}
 use lib.ListN.{length, take, drop}
@@ -9,7 +9,7 @@ use Rattle.job_rules.specs.declared.Plan.{Plan}
 use Rattle.job_claim.specs.Calls.{Call, Offer, Take, Seen, Run, nothing, seenOffer, seenTake}
 use Rattle.group_parts.specs.Parts.{partAt}
 use Rattle.group_rules.specs.declared.Group.{Group}
-use Rattle.group_rules.specs.Group.{jobAt, planAt, needs, groupOf}
+use Rattle.group_rules.specs.Group.{jobAt, planAt, needs}
 use Rattle.group_rules.specs.Tests.{groupOfferNumber, groupTakeNumber}
 use Rattle.group.specs.Calls.{groupOfferRows, fedRows, groupOffered, groupOfferWork, groupTaken, groupTakeOut, groupTakeWork}
 use Rattle.group_start.specs.Start.{groupStarted, groupStartWork}
