@@ -8,13 +8,14 @@ use crate::planes::Planes;
 use std::fmt;
 use std::io::{self, Write};
 
-/// Why a [`Preview`] did not take bytes, or is not finished. Nothing is lost by it: what was taken stays, and the preview can go on.
+/// Why a [`Preview`] or a [`GroupPreview`](crate::GroupPreview) did not take bytes, or is not finished. Nothing is lost by it: what was taken stays, and it can
+/// go on.
 ///
 /// An [`Error`] turns into one, so that `?` serves for both.
 #[derive(Clone, Copy, PartialEq, Eq, Hash, Debug)]
 #[non_exhaustive]
 pub enum PreviewError {
-    /// A preview row is ready: ask [`Preview::next_row`] until it has none.
+    /// A preview row is ready: ask `next_row` until it has none.
     RowReady,
     /// Every byte of the source was there before these.
     TooManyBytes,
