@@ -5,6 +5,7 @@
 #include "jonquilsaw.h"
 
 _Static_assert(OURS_RECORD == JONQUILSAW_RECORD_WORDS, "a record's words");
+_Static_assert(OURS_PLAN == JONQUILSAW_PLAN_WORDS, "a plan's words");
 
 /* The record that a start writes lies apart from its arguments; what it writes beside a success is seen as a difference. */
 static void blank(uint32_t fresh[OURS_RECORD]) {

@@ -61,7 +61,6 @@ enum {
   JOBS = sizeof kJobs / sizeof kJobs[0],
   PLANES = sizeof kPlanes / sizeof kPlanes[0],
   PREVIEWS = sizeof kPreviews / sizeof kPreviews[0],
-  PLAN_WORDS = 11,
   ARRIVING = 8,
   MOST_ROUNDS = 1000
 };
@@ -403,18 +402,18 @@ static size_t previews_bytes(void) {
 static void in_one_pass(uint32_t layout, const uint8_t* pixels, uint32_t* work, uint8_t* out) {
   const uint32_t w = kPreviews[0].w, h = kPreviews[0].h;
   const size_t row = (size_t)4 * w, words = previews_work();
-  uint32_t plans[PREVIEWS * PLAN_WORDS], record[1 + PREVIEWS * JONQUILSAW_RECORD_WORDS], count = 0, left = 0;
+  uint32_t plans[PREVIEWS * JONQUILSAW_PLAN_WORDS], record[JONQUILSAW_GROUP_WORDS(PREVIEWS)], count = 0, left = 0;
   const size_t lent = sizeof record / sizeof record[0];
   uint8_t* next[PREVIEWS];
   for (int i = 0; i < PREVIEWS; ++i) {
     const Job* const j = &kPreviews[i];
-    const uint32_t plan[PLAN_WORDS] = {w, h, layout, j->x, j->y, j->cw, j->ch, j->tw, j->th, JONQUILSAW_PICTURE, JONQUILSAW_PIXEL_LANES};
-    memcpy(plans + i * PLAN_WORDS, plan, sizeof plan);
+    const uint32_t plan[JONQUILSAW_PLAN_WORDS] = {w, h, layout, j->x, j->y, j->cw, j->ch, j->tw, j->th, JONQUILSAW_PICTURE, JONQUILSAW_PIXEL_LANES};
+    memcpy(plans + i * JONQUILSAW_PLAN_WORDS, plan, sizeof plan);
     next[i] = out;
     out += target_bytes(j);
     left += j->th;
   }
-  if (jonquilsaw_start_group(plans, PREVIEWS * PLAN_WORDS, PREVIEWS, work, words, record, lent)) refuse("start_group");
+  if (jonquilsaw_start_group(plans, PREVIEWS * JONQUILSAW_PLAN_WORDS, PREVIEWS, work, words, record, lent)) refuse("start_group");
   for (uint32_t y = 0; y < h; y += count) {
     const uint32_t arrived = y - y % ARRIVING + ARRIVING < h ? y - y % ARRIVING + ARRIVING : h;
     if (jonquilsaw_offer_group(record, lent, pixels + y * row, (arrived - y) * row, work, words, &count, 1)) refuse("offer_group");
