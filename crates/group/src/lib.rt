@@ -1,11 +1,29 @@
 // The calls of a group (SCOPE, "Groups"): an offer of source rows to all its jobs, and a take of one job's next row.
 use group_rules::Group;
+use group_rules::check_group;
+use group_tests::Placed;
+use group_tests::check_group_offer;
+use group_tests::check_group_take;
+use group_tests::some_ready;
+use job::Job;
+use job::Taken;
+use job_rules::row_bytes;
+use job_rules::row_form;
 use pixels::Checked;
+use rows_in::put_source_row;
 ghost use mathlib.Core.Path.{_≡_};
-ghost use lib.ListN.{length};
+ghost use mathlib.Core.Bool.{true};
+ghost use Prim.Native.Nat.{_+_, _≤_, _<_};
+ghost use lib.ListN.{length, set};
 ghost use Rattle.pixels.specs.Refusals.{checkedNumber};
-ghost use Rattle.group_rules.specs.Tests.{groupOfferNumber, groupTakeNumber};
-ghost use Rattle.group.specs.Calls.{groupReady, groupOfferRows, groupOffered, groupOfferWork, groupTaken, groupTakeOut, groupTakeWork};
+ghost use Rattle.job.specs.Answers.{takenJob};
+ghost use Rattle.job.specs.Calls as job;
+ghost use Rattle.job.specs.Calls.{rowAccepted, fed, moreAccepted};
+ghost use Rattle.group_parts.specs.Parts.{partAt, putAt, eachPart};
+ghost use Rattle.group_rules.specs.Group.{jobAt, planAt, eachJob, needs, total, groupLawful};
+ghost use Rattle.group_rules.specs.Tests.{someReady, groupOfferNumber, groupTakeNumber};
+ghost use Rattle.group.specs.Inner.{RowForAll};
+ghost use Rattle.group.specs.Calls.{mostRows, groupCount, withJobs, groupReady, groupOfferRows, groupOffered, groupOfferWork, groupTaken, groupTakeOut, groupTakeWork};
 
 // Whether rows were accepted, or why none; how many; and the next record.
 pub struct OfferedGroup {
@@ -18,4 +36,194 @@ pub struct OfferedGroup {
 pub struct TakenGroup {
     pub answer: Checked,
     pub group: Group,
+}
+
+// ---- how many rows come in
+
+// The rows lent or those that the source has left, whichever are fewer; n is the number of bytes lent.
+fn most_rows(g: Group, n: usize) -> u32
+    requires { ⌜ groupLawful g ≡ true ⌝ }
+    ensures { λ r. ⌜ r ≡ mostRows g n ⌝ }
+{
+    let j = g.jobs[0];
+    let lent = n / row_bytes(j.plan, j.plan.source.width);
+    let left = j.plan.source.height - j.accepted;
+    if lent < left as usize {
+        return lent as u32;
+    }
+    left
+}
+
+// The rows of an offer that passed its tests: one more as long as no job has one ready. n is the number of bytes lent, w that of work values.
+fn count_rows(g: Group, n: usize, w: usize) -> u32
+    requires { ⌜ groupOfferNumber g n w ≡ 0 ⌝ }
+    ensures { λ r. ⌜ r ≡ groupCount g n ⌝ }
+{
+    let most = most_rows(g, n);
+    let j = g.jobs[0];
+    let mut c: u32 = 1;
+    while c < most {
+        if some_ready(g, j.accepted + c) {
+            return c;
+        }
+        c += 1;
+    }
+    c
+}
+
+// ---- rows come in
+
+// Source row s for every job, each on its own part of the work values, while the row is at hand.
+fn feed_row(g: Group, s: u32, row: &[u8], work: &mut [u32])
+    requires { ⌜ RowForAll g (now row) (now work) ⌝ }
+    ensures { λ _. ⌜ now (work .exit) ≡ eachPart (needs (g .jobs)) (λ i. rowAccepted (planAt (g .jobs) i) (now (row .entry)) s) (g .count) (now (work .entry)) ⌝ }
+{
+    let n = g.count as usize;
+    let mut at: usize = 0;
+    let mut i: usize = 0;
+    while i < n {
+        let j = g.jobs[i];
+        let p = j.plan;
+        let form = row_form(p);
+        let half = row_bytes(p, p.target.width);
+        let end = at + 2 * half;
+        put_source_row(form, p.crop, p.target, s, row, &mut work[at..end]);
+        at = end;
+        i += 1;
+    }
+}
+
+// The first c rows lent, one after another.
+fn feed_rows(g: Group, c: u32, rows: &[u8], work: &mut [u32])
+    requires { ⌜ (groupOfferNumber g (length (now rows)) (length (now work)) ≡ 0) × (c ≡ groupCount g (length (now rows))) ⌝ }
+    ensures { λ _. ⌜ now (work .exit) ≡ eachPart (needs (g .jobs)) (λ i. fed (planAt (g .jobs) i) (now (rows .entry)) (jobAt (g .jobs) 0 .accepted) c) (g .count) (now (work .entry)) ⌝ }
+{
+    let j = g.jobs[0];
+    let stride = row_bytes(j.plan, j.plan.source.width);
+    let mut r: u32 = 0;
+    while r < c {
+        let at = stride * r as usize;
+        feed_row(g, j.accepted + r, &rows[at..at + stride], work);
+        r += 1;
+    }
+}
+
+// All records with c rows more.
+fn all_more(g: Group, c: u32) -> Group
+    requires { ⌜ (groupLawful g ≡ true) × (jobAt (g .jobs) 0 .accepted + c ≤ 16384) ⌝ }
+    ensures { λ r. ⌜ r ≡ withJobs g (eachJob (λ j. moreAccepted j c) (g .count) (g .jobs)) ⌝ }
+{
+    let n = g.count as usize;
+    let mut next = g;
+    let mut i: usize = 0;
+    while i < n {
+        let j = g.jobs[i];
+        let p = j.plan;
+        let more = Job {
+            plan: p,
+            accepted: j.accepted + c,
+            taken: j.taken,
+            flag: j.flag,
+        };
+        next.jobs[i] = more;
+        i += 1;
+    }
+    next
+}
+
+// ---- a row goes out
+
+fn taken_job(t: Taken) -> Job
+    ensures { λ r. ⌜ r ≡ takenJob t ⌝ }
+{
+    match t {
+        Taken::Wrote { job: j } => j,
+        Taken::Refused { why: _, job: j } => j,
+    }
+}
+
+// Job k's own take, on its part of the work values, which starts at `at`.
+fn take_part(mut g: Group, k: usize, at: usize, out: &mut [u8], work: &mut [u32]) -> Group
+    requires { ⌜ (groupTakeNumber g k (length (now out)) (length (now work)) ≡ 0) × (at ≡ total (g .jobs) k) ⌝ }
+    ensures group { λ r. ⌜ r ≡ withJobs g (set (g .jobs) k (job.takeJob (jobAt (g .jobs) k) (length (now (out .entry))) (partAt (needs (g .jobs)) k (now (work .entry))))) ⌝ }
+    ensures out { λ _. ⌜ now (out .exit) ≡ job.takeOut (jobAt (g .jobs) k) (now (out .entry)) (partAt (needs (g .jobs)) k (now (work .entry))) ⌝ }
+    ensures work { λ _. ⌜ now (work .exit) ≡ putAt (total (g .jobs) k) (needs (g .jobs) k) (now (work .entry)) (job.takeWork (jobAt (g .jobs) k) (length (now (out .entry))) (partAt (needs (g .jobs)) k (now (work .entry)))) ⌝ }
+{
+    let j = g.jobs[k];
+    let half = row_bytes(j.plan, j.plan.target.width);
+    let end = at + 2 * half;
+    let t = j.take(out, &mut work[at..end]);
+    let next = taken_job(t);
+    g.jobs[k] = next;
+    g
+}
+
+// ---- the calls
+
+// The rows ready of a job, counted from 0; none of a group that breaks the rules, nor of a job that it lacks.
+// Rules out: the rows ready of the job after it; a row ready of a job beyond the count.
+pub fn group_ready(g: Group, job: u32) -> u32
+    ensures { λ r. ⌜ r ≡ groupReady g job ⌝ }
+{
+    if !check_group(g) {
+        return 0;
+    }
+    if g.count <= job {
+        return 0;
+    }
+    let j = g.jobs[job as usize];
+    j.ready()
+}
+
+// Offers one or more whole source rows to all jobs; returns how many were accepted.
+// Rules out: rows counted by the first job alone; an offer that goes on past the first row that makes a row ready; each row put into the first job's part.
+pub fn offer_group(g: Group, rows: &[u8], work: &mut [u32]) -> OfferedGroup
+    ensures number { λ r. ⌜ checkedNumber (r .answer) ≡ groupOfferNumber g (length (now (rows .entry))) (length (now (work .entry))) ⌝ }
+    ensures rows { λ r. ⌜ r .rows ≡ groupOfferRows g (length (now (rows .entry))) (length (now (work .entry))) ⌝ }
+    ensures group { λ r. ⌜ r .group ≡ groupOffered g (length (now (rows .entry))) (length (now (work .entry))) ⌝ }
+    ensures work { λ _. ⌜ now (work .exit) ≡ groupOfferWork g (now (rows .entry)) (now (work .entry)) ⌝ }
+{
+    let checked = check_group_offer(g, rows.len(), work.len());
+    match checked {
+        Checked::Refused(why) => {
+            return OfferedGroup {
+                answer: Checked::Refused(why),
+                rows: 0,
+                group: g,
+            };
+        }
+        Checked::Fit => {}
+    }
+    let c = count_rows(g, rows.len(), work.len());
+    feed_rows(g, c, rows, work);
+    let next = all_more(g, c);
+    OfferedGroup {
+        answer: Checked::Fit,
+        rows: c,
+        group: next,
+    }
+}
+
+// Takes the next output row of a job, counted from 0.
+// Rules out: a part cut one value too late; the record of the named job not advanced; a take that writes into the first job's part.
+pub fn take_group(g: Group, job: u32, out: &mut [u8], work: &mut [u32]) -> TakenGroup
+    ensures number { λ r. ⌜ checkedNumber (r .answer) ≡ groupTakeNumber g job (length (now (out .entry))) (length (now (work .entry))) ⌝ }
+    ensures group { λ r. ⌜ r .group ≡ groupTaken g job (length (now (out .entry))) (now (work .entry)) ⌝ }
+    ensures out { λ _. ⌜ now (out .exit) ≡ groupTakeOut g job (now (out .entry)) (now (work .entry)) ⌝ }
+    ensures work { λ _. ⌜ now (work .exit) ≡ groupTakeWork g job (length (now (out .entry))) (now (work .entry)) ⌝ }
+{
+    let placed = check_group_take(g, job, out.len(), work.len());
+    match placed {
+        Placed::Refused { why } => TakenGroup {
+            answer: Checked::Refused(why),
+            group: g,
+        },
+        Placed::At { place } => {
+            let next = take_part(g, job as usize, place, out, work);
+            TakenGroup {
+                answer: Checked::Fit,
+                group: next,
+            }
+        }
+    }
 }

@@ -138,11 +138,11 @@ module _ (n : ℕ → ℕ) (f : ℕ → List ℕ → List ℕ) (keeps : (i : ℕ
       let m : offset n i ≤ length w = omega (arith, fits i w h) in
       rw (each-open n f i w)
       (⊎-elim
-        (λ e. rw e (put-there (offset n i) (n i) v (f i (partAt n i v)) (in-whole i w h) (long i w h)
-          ∙ ap (λ (z : List ℕ). f i (take (n i) z)) (each-rest i w m)))
-        (λ b. put-before (offset n k) (n k) (offset n i) (n i) v (f i (partAt n i v)) (offset-next n k i b) (in-whole i w h)
-          ∙ each-part i k w m b)
-        (eq-or-lt-of-le (le-of-suc-le-suc l)))
+      (λ e. rw e (put-there (offset n i) (n i) v (f i (partAt n i v)) (in-whole i w h) (long i w h)
+      ∙ ap (λ (z : List ℕ). f i (take (n i) z)) (each-rest i w m)))
+      (λ b. put-before (offset n k) (n k) (offset n i) (n i) v (f i (partAt n i v)) (offset-next n k i b) (in-whole i w h)
+      ∙ each-part i k w m b)
+      (eq-or-lt-of-le (le-of-suc-le-suc l)))
 
 -- ---- a list is known by its parts and what lies after them
 
@@ -186,12 +186,23 @@ module _ (n : ℕ → ℕ) (f g : ℕ → List ℕ → List ℕ)
       let m : offset n k ≤ length (eachPart n g k w) = rw (each-length n g g-keeps k w room) room in
       parts-same n k (eachPart n f k (eachPart n g k w)) (eachPart n both k w)
       (λ i l.
-        each-part n f f-keeps k i (eachPart n g k w) m l
-        ∙ ap (f i) (each-part n g g-keeps k i w room l)
-        ∙ sym (each-part n both both-keeps k i w room l))
+      each-part n f f-keeps k i (eachPart n g k w) m l
+      ∙ ap (f i) (each-part n g g-keeps k i w room l)
+      ∙ sym (each-part n both both-keeps k i w room l))
       (each-rest n f f-keeps k (eachPart n g k w) m
       ∙ each-rest n g g-keeps k w room
       ∙ sym (each-rest n both both-keeps k w room))
+
+-- changes that change nothing
+pub each-kept : (n : ℕ → ℕ) (f : ℕ → List ℕ → List ℕ) → ((i : ℕ) (x : List ℕ) → f i x ≡ x) → (k : ℕ) (w : List ℕ) → eachPart n f k w ≡ w
+each-kept n f h zero w = each-none n f w
+each-kept n f h (suc k) w =
+    let v : List ℕ = eachPart n f k w in
+    each-open n f k w
+    ∙ ap (λ (z : List ℕ). putAt (offset n k) (n k) v z) (h k (partAt n k v))
+    ∙ ap (λ (z : List ℕ). take (offset n k) v ++ z) (take-append-drop (n k) (drop (offset n k) v))
+    ∙ take-append-drop (offset n k) v
+    ∙ each-kept n f h k w
 
 -- ---- the same lengths, cut alike
 pub offset-cong : (n m : ℕ → ℕ) → ((k : ℕ) → n k ≡ m k) → (i : ℕ) → offset n i ≡ offset m i

@@ -1,3 +1,4 @@
 pub mod Jobs
 pub mod Alike
 pub mod Lawful
+pub mod Going
