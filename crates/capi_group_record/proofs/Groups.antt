@@ -2,7 +2,7 @@
 -- as: neither way loses anything. What the loops over plans and jobs keep. Assumes nothing.
 use Prim.Native.Nat.{ℕ, zero, suc, _+_, _*_, _-_, _≤_, _<_}
 use mathlib.Core.Path.{_≡_, refl, sym, ap, _∙_}
-use mathlib.Core.Bool.{Bool, true, false, cond, not, _&&_}
+use mathlib.Core.Bool.{Bool, true, false, cond, not, _&&_, true≢false}
 use mathlib.Core.List.{List, [], _∷_, _++_, append-nil}
 use mathlib.Core.Logic.{⊎-elim}
 use native.Mathlib.Omega.{arith}
@@ -389,3 +389,34 @@ group-written words e =
     stored-all g words (l .few) (l .enough)
     ∙ ap (λ (x : List ℕ). n ∷ x) (rw (js, rest) (take-append-drop (recordLength * n) (drop 1 words)))
     ∙ sym first
+
+-- ---- what is known of words by what they tell
+told-plans : (b : Bool) (ps : List Plan) (got : ToldPlans) → got ≡ cond b (record { legal = true; plans = ps }) noPlans → got .legal ≡ true → (b ≡ true) × (got .plans ≡ ps)
+told-plans true ps got e l = (refl, ap (λ (t : ToldPlans). t .plans) e)
+told-plans false ps got e l = absurd (true≢false (sym l ∙ ap (λ (t : ToldPlans). t .legal) e))
+
+no-plans-told : (b : Bool) (ps : List Plan) (got : ToldPlans) → got ≡ cond b (record { legal = true; plans = ps }) noPlans → got .legal ≡ false → b ≡ false
+no-plans-told true ps got e l = absurd (true≢false (sym (ap (λ (t : ToldPlans). t .legal) e) ∙ l))
+no-plans-told false ps got e l = refl
+
+module _ (words : List ℕ) (count lent : ℕ) (got : ToldPlans) (e : got ≡ toldPlans words count lent) where
+  pub plans-legal : got .legal ≡ true → (plansLegal words (looked count) lent ≡ true) × (got .plans ≡ plansOf words (looked count))
+  plans-legal l = told-plans (plansLegal words (looked count) lent) (plansOf words (looked count)) got e l
+
+  pub plans-illegal : got .legal ≡ false → plansLegal words (looked count) lent ≡ false
+  plans-illegal l = no-plans-told (plansLegal words (looked count) lent) (plansOf words (looked count)) got e l
+
+told-group : (b : Bool) (g : Group) (got : ToldGroup) → got ≡ cond b (record { legal = true; group = g }) nothingTold → got .legal ≡ true → (b ≡ true) × (got .group ≡ g)
+told-group true g got e l = (refl, ap (λ (t : ToldGroup). t .group) e)
+told-group false g got e l = absurd (true≢false (sym l ∙ ap (λ (t : ToldGroup). t .legal) e))
+
+no-group-told : (b : Bool) (g : Group) (got : ToldGroup) → got ≡ cond b (record { legal = true; group = g }) nothingTold → got .legal ≡ false → b ≡ false
+no-group-told true g got e l = absurd (true≢false (sym (ap (λ (t : ToldGroup). t .legal) e) ∙ l))
+no-group-told false g got e l = refl
+
+module _ (words : List ℕ) (got : ToldGroup) (e : got ≡ toldGroup words) where
+  pub group-legal : got .legal ≡ true → (groupLegal words ≡ true) × (got .group ≡ wordsGroup words)
+  group-legal l = told-group (groupLegal words) (wordsGroup words) got e l
+
+  pub group-illegal : got .legal ≡ false → groupLegal words ≡ false
+  group-illegal l = no-group-told (groupLegal words) (wordsGroup words) got e l

@@ -79,8 +79,10 @@ returns-3 c =
     let g = c .before .before .before .before .before .before .before .before .before .before .before .before .args in
     let n = c .before .before .before .before .before .before .before .before .before .before .looked-at in
     let r = c .no-plans4 in
-    let i = c .before .before .before .before .before .before .loop .i in
-    plan-not (g .words .now) (g .count) (g .lent) (n .result) (n .ensures) (r .result) (r .ensures) (c .before .before .before .before .before .before .before .before .before .if1 .left) (c .before .before .before .before .before .before .before .before .if2 .left) i (c .before .before .before .before .before .loop-test .taken) (no-plan-here (g .words .now) i (c .before .before .before .read-plan .ensures) (c .before .enum-told .given .1))
+    let l = c .before .before .before .before .before in
+    let i = l .before .loop .i in
+    let none = no-plan-here (g .words .now) i (c .before .before .before .read-plan .ensures) (c .before .enum-told .given .1) in
+    plan-not (g .words .now) (g .count) (g .lent) (n .result) (n .ensures) (r .result) (r .ensures) (l .before .before .before .before .if1 .left) (l .before .before .before .if2 .left) i (l .loop-test .taken) none
 
 mul-plan : tie.Need-mul-plan Inv-loop μ-loop
 mul-plan c = search needs
