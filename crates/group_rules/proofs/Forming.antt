@@ -49,9 +49,9 @@ module _ (plans : List Plan) where
   fresh-at (suc n) k h l =
       ap (λ (x : List Job). jobAt x k) (fresh-next n)
       ∙ ⊎-elim
-        (λ q. rw q (getD-set-same (freshJobs plans n) n (fresh (formed (givenAt plans n))) spare (rw (fresh-long n) (omega arith))))
-        (λ m. getD-set-other (freshJobs plans n) n k (fresh (formed (givenAt plans n))) spare (omega arith) ∙ fresh-at n k (omega arith) m)
-        (eq-or-lt-of-le (le-of-suc-le-suc l))
+      (λ q. rw q (getD-set-same (freshJobs plans n) n (fresh (formed (givenAt plans n))) spare (rw (fresh-long n) (omega arith))))
+      (λ m. getD-set-other (freshJobs plans n) n k (fresh (formed (givenAt plans n))) spare (omega arith) ∙ fresh-at n k (omega arith) m)
+      (eq-or-lt-of-le (le-of-suc-le-suc l))
 
 -- ---- each is one that start or start_plane forms
 formed-by : (kind : Kind) (p : Plan) → Formed (formedBy kind p)
