@@ -111,6 +111,6 @@ module _ (f : Job → Job) where
   job-changed (suc n) k js h l =
       ap (λ (x : List Job). jobAt x k) (each-next n js)
       ∙ ⊎-elim
-        (λ q. rw q (getD-set-same (eachJob f n js) n (f (jobAt js n)) spare (rw (jobs-long n js) (omega arith))))
-        (λ m. getD-set-other (eachJob f n js) n k (f (jobAt js n)) spare (omega arith) ∙ job-changed n k js (omega arith) m)
-        (eq-or-lt-of-le (le-of-suc-le-suc l))
+      (λ q. rw q (getD-set-same (eachJob f n js) n (f (jobAt js n)) spare (rw (jobs-long n js) (omega arith))))
+      (λ m. getD-set-other (eachJob f n js) n k (f (jobAt js n)) spare (omega arith) ∙ job-changed n k js (omega arith) m)
+      (eq-or-lt-of-le (le-of-suc-le-suc l))

@@ -78,12 +78,12 @@ lawful-group g e =
       some = omega (arith, jobs-there (g .jobs) (g .count) same);
       few = ltb-false groupLimit (g .count) (not-true _ (sorts .0));
       member = λ i l.
-        let own = both-true (lawful (jobAt (g .jobs) i)) _ (every-one (inStep (g .jobs)) (g .count) i (steps .1) l) in
-        record {
-          rules = rules-of _ _ _ _ (own .0);
-          accepted = eqb-true _ _ (own .1);
-          alike = alike-all (g .jobs) (g .count) same i l;
-        };
+          let own = both-true (lawful (jobAt (g .jobs) i)) _ (every-one (inStep (g .jobs)) (g .count) i (steps .1) l) in
+          record {
+            rules = rules-of _ _ _ _ (own .0);
+            accepted = eqb-true _ _ (own .1);
+            alike = alike-all (g .jobs) (g .count) same i l;
+          };
     }
 
 -- ---- the work values of a job whose record meets the rules

@@ -25,7 +25,10 @@ pub fn no_job() -> Job
 {
     Job {
         plan: Plan {
-            source: Dimensions { width: 0, height: 0 },
+            source: Dimensions {
+                width: 0,
+                height: 0,
+            },
             layout: PixelLayout::Rgba8,
             crop: Rect {
                 x: 0,
@@ -33,7 +36,10 @@ pub fn no_job() -> Job
                 width: 0,
                 height: 0,
             },
-            target: Dimensions { width: 0, height: 0 },
+            target: Dimensions {
+                width: 0,
+                height: 0,
+            },
             kind: Kind::Picture,
             lanes: 0,
         },
@@ -43,7 +49,7 @@ pub fn no_job() -> Job
     }
 }
 
-// How many of `count` jobs are looked at: none beyond the limit. Rules out: a ninth job looked at; the eighth left out.
+// How many of `count` jobs are looked at: none beyond the limit. Rules out: a ninth job looked at; seven of nine.
 pub fn looked_at(count: u32) -> usize
     ensures { λ r. ⌜ r ≡ looked count ⌝ }
 {
@@ -116,7 +122,7 @@ fn plans_alike(p: Plan, q: Plan) -> bool
     q.lanes == p.lanes
 }
 
-// Number 13 of a start: no jobs, or jobs that do not go over one source. Rules out: an empty group let pass; the last job not compared.
+// Number 13 of a start: no jobs, or jobs that do not go over one source. Rules out: an empty group let pass; jobs of other layouts.
 pub fn jobs_differ(g: Group) -> bool
     ensures { λ r. ⌜ r ≡ differing (g .jobs) (looked (g .count)) ⌝ }
 {
@@ -158,7 +164,7 @@ fn jobs_in_step(g: Group) -> bool
     true
 }
 
-// The rules of a group. Rules out: nine jobs; jobs that differ in rows accepted; a job whose own record breaks the rules.
+// The rules of a group. Rules out: eight jobs turned away; jobs that differ in rows accepted; the first job's own rules tested, no other's.
 pub fn check_group(g: Group) -> bool
     ensures { λ r. ⌜ r ≡ groupLawful g ⌝ }
 {

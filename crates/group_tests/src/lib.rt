@@ -38,7 +38,7 @@ fn part_start(g: Group, n: usize) -> usize
     at
 }
 
-// The work values that all jobs need; 0 of a group that breaks the rules. Rules out: one half for each job; the last job's part left out.
+// The work values that all jobs need; 0 of a group that breaks the rules. Rules out: one half for each job; a need of a group that breaks them.
 pub fn group_need(g: Group) -> usize
     ensures { λ r. ⌜ r ≡ cond (groupLawful g) (total (g .jobs) (g .count)) 0 ⌝ }
 {
@@ -50,7 +50,7 @@ pub fn group_need(g: Group) -> usize
 
 // ---- rows ready
 
-// A job has a row ready once k rows are accepted. Rules out: the first job alone asked; the rows accepted in place of k.
+// A job has a row ready once k rows are accepted. Rules out: a row ready once all are taken; the heights exchanged.
 pub fn some_ready(g: Group, k: u32) -> bool
     ensures { λ r. ⌜ r ≡ someReady (g .jobs) (looked (g .count)) k ⌝ }
 {
@@ -70,7 +70,8 @@ pub fn some_ready(g: Group, k: u32) -> bool
 
 // ---- the tests of each call, in their order
 
-// Those of an offer, of the bytes lent and the work values. Rules out: 5 told for the first job's need alone; 7 and 8 exchanged.
+// Those of an offer, of the bytes lent and the work values. Rules out: 8 told once as many rows as the crop has are accepted;
+// 7 told by what the rows taken would make.
 pub fn check_group_offer(g: Group, bytes: usize, work: usize) -> Checked
     ensures { λ r. ⌜ checkedNumber r ≡ groupOfferNumber g bytes work ⌝ }
 {
@@ -97,7 +98,7 @@ pub fn check_group_offer(g: Group, bytes: usize, work: usize) -> Checked
 }
 
 // Those of a take, of the job named, the bytes of output and the work values; where they pass, where that job's part starts.
-// Rules out: a job that the group lacks taken for a record that breaks the rules; the part of the job after it.
+// Rules out: 6 told where the group lacks the job; the part of the first job, whichever is named.
 pub fn check_group_take(g: Group, job: u32, bytes: usize, work: usize) -> Placed
     ensures number { λ r. ⌜ placedNumber r ≡ groupTakeNumber g job bytes work ⌝ }
     ensures place { λ r. ⌜ placedAt r ≡ placeIf (groupTakeNumber g job bytes work) (total (g .jobs) job) ⌝ }
