@@ -13,7 +13,7 @@ use pixels::Checked;
 use rows_in::put_source_row;
 ghost use mathlib.Core.Path.{_≡_};
 ghost use mathlib.Core.Bool.{true};
-ghost use Prim.Native.Nat.{_+_, _≤_, _<_};
+ghost use Prim.Native.Nat.{_+_, _≤_};
 ghost use lib.ListN.{length, set};
 ghost use Rattle.pixels.specs.Refusals.{checkedNumber};
 ghost use Rattle.job.specs.Answers.{takenJob};
@@ -21,7 +21,7 @@ ghost use Rattle.job.specs.Calls as job;
 ghost use Rattle.job.specs.Calls.{rowAccepted, fed, moreAccepted};
 ghost use Rattle.group_parts.specs.Parts.{partAt, putAt, eachPart};
 ghost use Rattle.group_rules.specs.Group.{jobAt, planAt, eachJob, needs, total, groupLawful};
-ghost use Rattle.group_rules.specs.Tests.{someReady, groupOfferNumber, groupTakeNumber};
+ghost use Rattle.group_rules.specs.Tests.{groupOfferNumber, groupTakeNumber};
 ghost use Rattle.group.specs.Inner.{RowForAll};
 ghost use Rattle.group.specs.Calls.{mostRows, groupCount, withJobs, groupReady, groupOfferRows, groupOffered, groupOfferWork, groupTaken, groupTakeOut, groupTakeWork};
 
