@@ -36,7 +36,7 @@ fn further_help() -> String {
 With --also a further preview of the same crop, of its own size, is made in the same pass over the
 input and written to the file, in the form of the first. There are at most {GROUP_LIMIT} previews in all.
 
-    pngtopam -alphapam in.png | preview --also 640x0=middle.pam --also 1280x0=large.pam 320 0 >small.pam
+    preview --also 640x0=middle.pam --also 1280x0=large.pam 320 0 <in.pam >small.pam
 "
     )
 }
