@@ -29,7 +29,7 @@ extern "C" {
 #define JONQUILSAW_VERSION_MAJOR 0
 #define JONQUILSAW_VERSION_MINOR 5
 #define JONQUILSAW_VERSION_PATCH 0
-#define JONQUILSAW_VERSION "0.5.0"
+#define JONQUILSAW_VERSION "0.6.0"
 
 /* The largest side of a picture or a plane. */
 #define JONQUILSAW_MAX_SIDE 16384u
