@@ -20,9 +20,10 @@ use Rattle.group_parts.proofs.Cutting.{offset-next, part-cong, part-append, par
 use Rattle.group_rules.specs.declared.Group.{Group}
 use Rattle.group_rules.specs.Group.{jobAt, planAt, eachJob, needs, total}
 use Rattle.group_rules.proofs.Jobs.{jobs-long, job-beyond, job-changed}
+use Rattle.group_rules.proofs.Going.{GroupOfferGoes, group-offer-goes}
 use Rattle.group.specs.Calls.{groupCount, groupOfferRows, fedRows, withJobs, groupOffered, groupOfferWork}
 use Rattle.group.proofs.Kept.{offer-length}
-use Rattle.group.proofs.Going.{Goes, goes, fed-long, same-stride, alone-goes, alone-count}
+use Rattle.group.proofs.Going.{fed-long, same-stride, alone-goes, alone-count}
 use Rattle.group_claim.specs.Calls.{OfferAll, GroupRun, groupStep, alone, called, offerNumber, offerRows}
 use Rattle.group_claim.specs.Claim.{AllGo}
 use Rattle.group_claim.proofs.Alone.{same-run, offer-rows-is, offer-job-is, seen-same, offer-alone, run-one}
@@ -51,8 +52,8 @@ module _ (r : GroupRun) (long : r .group .count ≤ length (r .group .jobs)) (ro
   abbrev own : ℕ → List ℕ → List ℕ
   own i = job.offerWork (jobAt (r .group .jobs) i) (fedRows (r .group) rows)
 
-  went : Goes g (length rows) (length lent-work)
-  went = goes g (length rows) (length lent-work) e
+  went : GroupOfferGoes g (length rows) (length lent-work)
+  went = group-offer-goes g (length rows) (length lent-work) e
 
   -- ---- what the call left
   next-group : next .group ≡ withJobs g (eachJob (λ j. moreAccepted j rows-in) (g .count) js)

@@ -23,8 +23,9 @@ use Rattle.group_parts.specs.Parts.{offset, partAt, putAt}
 use Rattle.group_parts.proofs.Cutting.{offset-next, part-cong, part-append, part-within, part-long, put-before, put-there, put-later, put-after}
 use Rattle.group_rules.specs.declared.Group.{Group}
 use Rattle.group_rules.specs.Group.{spare, jobAt, planAt, needs, total}
+use Rattle.group_rules.proofs.Going.{GroupTakeGoes, group-take-goes}
 use Rattle.group.specs.Calls.{withJobs, groupTaken, groupTakeOut, groupTakeWork}
-use Rattle.group.proofs.Going.{TakeGoes, group-takes, alone-takes}
+use Rattle.group.proofs.Going.{alone-takes}
 use Rattle.group_claim.specs.Calls.{TakeOf, GroupRun, groupStep, alone, called, takeNumber, takeOut}
 use Rattle.group_claim.specs.Claim.{AllGo}
 use Rattle.group_claim.proofs.Alone.{same-run, take-length, take-alone, run-none, run-one}
@@ -70,8 +71,8 @@ module _ (r : GroupRun) (long : r .group .count ≤ length (r .group .jobs)) (k 
   abbrev next : GroupRun
   next = groupStep r (TakeOf k out lent)
 
-  took : TakeGoes g k (length out) (length lent-work)
-  took = group-takes g k (length out) (length lent-work) e
+  took : GroupTakeGoes g k (length out) (length lent-work)
+  took = group-take-goes g k (length out) (length lent-work) e
 
   lent-long : length lent-work ≡ min lent (length (r .work))
   lent-long = length-take lent (r .work)
