@@ -176,7 +176,7 @@ pub fn group_ready(g: Group, job: u32) -> u32
 }
 
 // Offers one or more whole source rows to all jobs; returns how many were accepted.
-// Rules out: rows counted by the first job alone; an offer that goes on past the first row that makes a row ready; parts cut one value too late.
+// Rules out: rows counted by the first job alone, past the first that makes a row ready in another; parts cut one value too late.
 pub fn offer_group(g: Group, rows: &[u8], work: &mut [u32]) -> OfferedGroup
     ensures number { λ r. ⌜ checkedNumber (r .answer) ≡ groupOfferNumber g (length (now (rows .entry))) (length (now (work .entry))) ⌝ }
     ensures rows { λ r. ⌜ r .rows ≡ groupOfferRows g (length (now (rows .entry))) (length (now (work .entry))) ⌝ }
@@ -205,7 +205,7 @@ pub fn offer_group(g: Group, rows: &[u8], work: &mut [u32]) -> OfferedGroup
 }
 
 // Takes the next output row of a job, counted from 0.
-// Rules out: the record of the named job not advanced; a take on the first job's part; a part as long as the source is wide.
+// Rules out: the record of the named job not advanced; a take on the first job's part.
 pub fn take_group(g: Group, job: u32, out: &mut [u8], work: &mut [u32]) -> TakenGroup
     ensures number { λ r. ⌜ checkedNumber (r .answer) ≡ groupTakeNumber g job (length (now (out .entry))) (length (now (work .entry))) ⌝ }
     ensures group { λ r. ⌜ r .group ≡ groupTaken g job (length (now (out .entry))) (now (work .entry)) ⌝ }

@@ -164,7 +164,7 @@ fn jobs_in_step(g: Group) -> bool
     true
 }
 
-// The rules of a group. Rules out: eight jobs turned away; jobs that differ in rows accepted; the first job's own rules tested, no other's.
+// The rules of a group. Rules out: jobs that differ in rows accepted; the first job's own rules tested, no other's.
 pub fn check_group(g: Group) -> bool
     ensures { λ r. ⌜ r ≡ groupLawful g ⌝ }
 {

@@ -65,8 +65,8 @@ fn formed_plan(p: Plan) -> Plan
     }
 }
 
-// Fresh jobs for the first `count` plans, as far as the limit. Rules out: a picture with the lane count that its plan says; nine jobs counted.
-pub fn group_of(plans: [Plan; GROUP_LIMIT], count: u32) -> Group
+// Fresh jobs for the first `count` plans, as far as the limit.
+fn group_of(plans: [Plan; GROUP_LIMIT], count: u32) -> Group
     ensures { λ r. ⌜ r ≡ groupOf plans count ⌝ }
 {
     let n = looked_at(count);
@@ -145,8 +145,7 @@ fn some_beyond(g: Group) -> bool
 }
 
 // The tests of a start, of the work values lent; where they pass, where the last part of the work values ends.
-// Rules out: 14 told before 13; eight jobs turned away.
-pub fn check_group_start(plans: [Plan; GROUP_LIMIT], count: u32, work: usize) -> Placed
+fn check_group_start(plans: [Plan; GROUP_LIMIT], count: u32, work: usize) -> Placed
     ensures number { λ r. ⌜ placedNumber r ≡ groupStartNumber plans count work ⌝ }
     ensures place { λ r. ⌜ placedAt r ≡ placeIf (groupStartNumber plans count work) (total (groupOf plans count .jobs) (groupOf plans count .count)) ⌝ }
 {
@@ -199,7 +198,8 @@ fn clear(work: &mut [u32], n: usize)
 }
 
 // Fresh jobs, and the parts of the work values that are theirs cleared.
-// Rules out: the whole slice cleared, beyond the parts too; the jobs handed back by a start that is turned away.
+// Rules out: the whole slice cleared, beyond the parts too; the jobs handed back by a start that is turned away; 14 told before 13; a picture with the lane count
+// that its plan says.
 pub fn start_group(plans: [Plan; GROUP_LIMIT], count: u32, work: &mut [u32]) -> StartedGroup
     ensures number { λ r. ⌜ checkedNumber (r .answer) ≡ groupStartNumber plans count (length (now (work .entry))) ⌝ }
     ensures group { λ r. ⌜ r .group ≡ groupStarted plans count (length (now (work .entry))) ⌝ }
