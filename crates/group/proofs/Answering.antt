@@ -1,24 +1,22 @@
 -- What the calls of a group give, as their contracts state it: a refusal leaves everything as it was, and the call that goes through. Assumes nothing.
 use Prim.Native.Nat.{ℕ, _+_, _≤_, _<_}
 use mathlib.Core.Path.{_≡_, refl, sym, ap, _∙_}
-use mathlib.Core.Bool.{Bool, true, false, cond, not, _&&_}
+use mathlib.Core.Bool.{Bool, true, false, not}
 use mathlib.Core.List.{List}
 use native.Mathlib.Omega.{arith}
-use lib.Dec.{eqb}
 use lib.ListN.{length, set}
 use borrow.Author.Tests.{eq-eqb, le-leb, lt-leb}
 use Rattle.pixels.specs.declared.Refusal.{Refusal}
 use Rattle.pixels.specs.Refusals.{number}
 use Rattle.pixels.proofs.Truths.{not-true, not-false}
 use Rattle.pixels.proofs.Numbers.{not-zero}
-use Rattle.job.specs.declared.Job.{Job}
 use Rattle.job.specs.Record.{readyOf}
 use Rattle.job.specs.Calls as job
 use Rattle.job.specs.Calls.{fed, moreAccepted}
 use Rattle.group_parts.specs.Parts.{putAt, eachPart}
 use Rattle.group_rules.specs.declared.Group.{Group}
 use Rattle.group_rules.specs.Group.{jobAt, planAt, eachJob, needs, total, groupLawful}
-use Rattle.group_rules.specs.Tests.{lacks, groupOfferNumber, groupTakeNumber}
+use Rattle.group_rules.specs.Tests.{groupOfferNumber, groupTakeNumber}
 use Rattle.group_rules.proofs.Going.{group-offer-goes}
 use Rattle.group_tests.specs.Placed.{placeIf}
 use Rattle.group.specs.Calls.{groupReady, groupCount, groupOfferRows, groupOffered, groupOfferWork, withJobs, ownPart, groupTaken, groupTakeOut, groupTakeWork}

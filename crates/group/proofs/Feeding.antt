@@ -1,8 +1,7 @@
 -- The loops of an offer: a source row for every job, and one row after another. Assumes nothing.
-use Prim.Native.Nat.{ℕ, zero, suc, _+_, _*_, _-_, _≤_, _<_}
+use Prim.Native.Nat.{ℕ, suc, _+_, _*_, _-_, _≤_, _<_}
 use mathlib.Core.Path.{_≡_, refl, sym, _∙_, ap, ap₂}
 use mathlib.Core.List.{List}
-use mathlib.Core.Bool.{true}
 use native.Mathlib.Omega.{arith}
 use native.Mathlib.Nat.{mul-le-mul-left}
 use native.Mathlib.Numerals.{add-one}
@@ -20,8 +19,8 @@ use Rattle.job.specs.declared.Job.{Job}
 use Rattle.job.specs.Calls.{rowAccepted, fed, moreAccepted}
 use Rattle.job.specs.Inner.{RowAsks}
 use Rattle.job.proofs.RowIn.{row-in}
-use Rattle.group_parts.specs.Parts.{offset, partAt, putAt, eachPart}
-use Rattle.group_parts.proofs.Cutting.{offset-zero, offset-suc, part-long, each-none, each-more, each-kept, each-length, each-same, each-twice}
+use Rattle.group_parts.specs.Parts.{partAt, eachPart}
+use Rattle.group_parts.proofs.Cutting.{offset-zero, offset-suc, part-long, each-none, each-more, each-kept, each-same, each-twice}
 use Rattle.group_rules.specs.declared.Group.{Group}
 use Rattle.group_rules.specs.Group.{groupLimit, jobAt, planAt, eachJob, needs, total}
 use Rattle.group_rules.specs.Tests.{groupOfferNumber}

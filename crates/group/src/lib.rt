@@ -13,7 +13,7 @@ use pixels::Checked;
 use rows_in::put_source_row;
 ghost use mathlib.Core.Path.{_≡_};
 ghost use mathlib.Core.Bool.{true};
-ghost use Prim.Native.Nat.{_+_, _≤_, _<_};
+ghost use Prim.Native.Nat.{_+_, _≤_};
 ghost use lib.ListN.{length, set};
 ghost use Rattle.pixels.specs.Refusals.{checkedNumber};
 ghost use Rattle.job.specs.Answers.{takenJob};
@@ -21,7 +21,7 @@ ghost use Rattle.job.specs.Calls as job;
 ghost use Rattle.job.specs.Calls.{rowAccepted, fed, moreAccepted};
 ghost use Rattle.group_parts.specs.Parts.{partAt, putAt, eachPart};
 ghost use Rattle.group_rules.specs.Group.{jobAt, planAt, eachJob, needs, total, groupLawful};
-ghost use Rattle.group_rules.specs.Tests.{someReady, groupOfferNumber, groupTakeNumber};
+ghost use Rattle.group_rules.specs.Tests.{groupOfferNumber, groupTakeNumber};
 ghost use Rattle.group.specs.Inner.{RowForAll};
 ghost use Rattle.group.specs.Calls.{mostRows, groupCount, withJobs, groupReady, groupOfferRows, groupOffered, groupOfferWork, groupTaken, groupTakeOut, groupTakeWork};
 
@@ -161,7 +161,7 @@ fn take_part(mut g: Group, k: usize, at: usize, out: &mut [u8], work: &mut [u32]
 // ---- the calls
 
 // The rows ready of a job, counted from 0; none of a group that breaks the rules, nor of a job that it lacks.
-// Rules out: the rows ready of the job after it; a row ready of a job beyond the count.
+// Rules out: a row ready of a job beyond the count; the rows taken in place of the rows ready.
 pub fn group_ready(g: Group, job: u32) -> u32
     ensures { λ r. ⌜ r ≡ groupReady g job ⌝ }
 {
@@ -176,7 +176,7 @@ pub fn group_ready(g: Group, job: u32) -> u32
 }
 
 // Offers one or more whole source rows to all jobs; returns how many were accepted.
-// Rules out: rows counted by the first job alone; an offer that goes on past the first row that makes a row ready; each row put into the first job's part.
+// Rules out: rows counted by the first job alone; an offer that goes on past the first row that makes a row ready; parts cut one value too late.
 pub fn offer_group(g: Group, rows: &[u8], work: &mut [u32]) -> OfferedGroup
     ensures number { λ r. ⌜ checkedNumber (r .answer) ≡ groupOfferNumber g (length (now (rows .entry))) (length (now (work .entry))) ⌝ }
     ensures rows { λ r. ⌜ r .rows ≡ groupOfferRows g (length (now (rows .entry))) (length (now (work .entry))) ⌝ }
@@ -205,7 +205,7 @@ pub fn offer_group(g: Group, rows: &[u8], work: &mut [u32]) -> OfferedGroup
 }
 
 // Takes the next output row of a job, counted from 0.
-// Rules out: a part cut one value too late; the record of the named job not advanced; a take that writes into the first job's part.
+// Rules out: the record of the named job not advanced; a take on the first job's part; a part as long as the source is wide.
 pub fn take_group(g: Group, job: u32, out: &mut [u8], work: &mut [u32]) -> TakenGroup
     ensures number { λ r. ⌜ checkedNumber (r .answer) ≡ groupTakeNumber g job (length (now (out .entry))) (length (now (work .entry))) ⌝ }
     ensures group { λ r. ⌜ r .group ≡ groupTaken g job (length (now (out .entry))) (now (work .entry)) ⌝ }

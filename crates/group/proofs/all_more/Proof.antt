@@ -1,5 +1,4 @@
 -- Each record so far counts the rows; the others are as they were. Assumes nothing.
-use mathlib.Core.Path.{_≡_}
 use Prim.Native.Nat.{_-_}
 use native.Mathlib.Omega.{arith}
 use Rattle.group_rules.proofs.Lawful.{lawful-group}

@@ -5,7 +5,7 @@ use Rattle.group_tests.proofs.Testing.{ready-here}
 use Rattle.group.proofs.Going.{legal-offer, most-some}
 use Prim.Native.Nat.{_-_}
 use native.Mathlib.Omega.{arith}
-use Rattle.group.proofs.Counted.{Counting, counting-first, counting-more, counting-ready, counting-full, count-most}
+use Rattle.group.proofs.Counted.{Counting, counting-first, counting-more, counting-ready, counting-full}
 use borrow.Author.Needs.{needs}
 use Rattle.group.proofs.count_rows.Statement.{statement}
 use Rattle.group.proofs.count_rows.Tie as tie

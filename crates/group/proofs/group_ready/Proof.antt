@@ -14,7 +14,10 @@ returns : tie.Need-returns
 returns c = let a = c .before .before .args in ready-broken (a .t1) (a .job) _ (c .before .check-group .ensures) (c .if1 .taken)
 
 returns-2 : tie.Need-returns-2
-returns-2 c = let a = c .before .before .before .args in ready-lacking (a .t1) (a .job) _ (c .before .before .check-group .ensures) (c .before .if1 .left) (c .if2 .taken)
+returns-2 c =
+    let a = c .before .before .before .args in
+    let few = lawful-group _ (lawful-is _ _ (c .before .before .check-group .ensures) (c .before .if1 .left)) .few in
+    ready-lacking (a .t1) (a .job) _ (c .before .before .check-group .ensures) (c .before .if1 .left) (omega (arith, c .if2 .taken, few))
 
 mul-j : tie.Need-mul-j
 mul-j c = search needs
@@ -28,7 +31,7 @@ ready-requires c κs = search needs
 returns-3 : tie.Need-returns-3
 returns-3 c =
     let a = c .before .before .before .before .before .args in
-    ready-job (a .t1) (a .job) _ (c .before .before .before .before .check-group .ensures) (c .before .before .before .if1 .left) (c .before .before .if2 .left) _ (c .ready .ensures)
+    ready-job (a .t1) (a .job) _ (c .before .before .before .before .check-group .ensures) (c .before .before .before .if1 .left) (omega (arith, c .before .before .if2 .left)) _ (c .ready .ensures)
 
 pub group-ready-spec : {M : Type 1} → statement M
 group-ready-spec =
