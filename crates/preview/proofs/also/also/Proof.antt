@@ -7,7 +7,7 @@ use Rattle.preview.proofs.also.also.Statement.{statement}
 use Rattle.preview.proofs.also.also.Tie as tie
 
 slice-aggregate-start-all : tie.Need-slice-aggregate-start-all
-slice-aggregate-start-all c = sym (length-replicate {A = ℕ} 1048576 0)
+slice-aggregate-start-all c = sym (length-replicate {A = ℕ} _ 0)
 
 start-all-requires : tie.Need-start-all-requires
 start-all-requires c κs = search needs
