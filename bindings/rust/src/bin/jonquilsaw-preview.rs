@@ -11,7 +11,7 @@ use std::os::fd::AsFd;
 use std::os::unix::ffi::OsStrExt;
 use std::process::ExitCode;
 
-const USAGE: &str = "usage: preview [--raw WIDTH HEIGHT] [--also WIDTHxHEIGHT=FILE].. TARGET_WIDTH TARGET_HEIGHT [X Y CROP_WIDTH CROP_HEIGHT]";
+const USAGE: &str = "usage: preview [--raw WIDTH HEIGHT] TARGET_WIDTH TARGET_HEIGHT [X Y CROP_WIDTH CROP_HEIGHT] [--also WIDTHxHEIGHT=FILE]...";
 
 const HELP: &str = "
 Scales a picture. A PAM picture (netpbm's P7; DEPTH 4, MAXVAL 255, TUPLTYPE RGB_ALPHA) comes in on
@@ -29,14 +29,14 @@ input is too short or too long, or the output cannot be written; 2 where the arg
 this form.
 ";
 
-/// What ./preview does not do.
+/// Of the option --also, with the limit as it stands.
 fn further_help() -> String {
     format!(
         "
 With --also a further preview of the same crop, of its own size, is made in the same pass over the
 input and written to the file, in the form of the first. There are at most {GROUP_LIMIT} previews in all.
 
-    preview --also 640x0=middle.pam --also 1280x0=large.pam 320 0 <in.pam >small.pam
+    preview 320 0 --also 640x0=middle.pam --also 1280x0=large.pam <in.pam >small.pam
 "
     )
 }
@@ -109,16 +109,16 @@ impl Further {
         if file.is_empty() { None } else { Some(Self { target: [number(width)?, number(height)?], file: OsStr::from_bytes(file).into() }) }
     }
 
-    /// Takes those that are asked for out of the words.
-    fn all(words: &mut Vec<OsString>) -> Result<Vec<Self>, Stop> {
-        let mut all = Vec::new();
-        while let Some(at) = words.iter().position(|word| word == "--also") {
-            let word = words.get(at + 1).ok_or_else(|| Stop::usage(USAGE))?;
-            let wrong = || Stop::usage(format!("preview: --also takes WIDTHxHEIGHT=FILE, and not '{}'", word.to_string_lossy()));
-            all.push(Self::of(word).ok_or_else(wrong)?);
-            words.drain(at..at + 2);
-        }
-        Ok(all)
+    /// Of the words from the first `--also` on: pairs of it and what it asks for.
+    fn all(words: &[OsString]) -> Result<Vec<Self>, Stop> {
+        let one = |pair: &[OsString]| match pair {
+            [option, word] if option == "--also" => {
+                let wrong = || Stop::usage(format!("preview: --also takes WIDTHxHEIGHT=FILE, and not '{}'", word.to_string_lossy()));
+                Self::of(word).ok_or_else(wrong)
+            }
+            _ => Err(Stop::usage(USAGE)),
+        };
+        words.chunks(2).map(one).collect()
     }
 }
 
@@ -219,12 +219,12 @@ fn read(input: &mut File, buffer: &mut [u8]) -> Result<usize, Stop> {
 }
 
 fn run() -> Result<(), Stop> {
-    let mut words: Vec<OsString> = std::env::args_os().skip(1).collect();
+    let words: Vec<OsString> = std::env::args_os().skip(1).collect();
     if words.first().is_some_and(|word| word == "-h" || word == "--help") {
         let help = format!("{USAGE}\n{HELP}{}", further_help());
         return io::stdout().write_all(help.as_bytes()).map_err(|why| Stop::stream("standard output", &why));
     }
-    let further = Further::all(&mut words)?;
+    let (words, further) = words.split_at(words.iter().position(|word| word == "--also").unwrap_or(words.len()));
     let raw = words.first().is_some_and(|word| word == "--raw");
     let words = &words[usize::from(raw)..];
     let sizes = if raw { 2 } else { 0 };
@@ -232,6 +232,7 @@ fn run() -> Result<(), Stop> {
         return Err(Stop::usage(USAGE));
     }
     let n = numbers(words)?;
+    let further = Further::all(further)?;
     let mut input = File::from(io::stdin().as_fd().try_clone_to_owned().map_err(|why| Stop::stream("standard input", &why))?);
     let mut outputs = vec![Output::standard()?];
     let mut buffer = vec![0; 65536];
