@@ -314,7 +314,7 @@ static inline const char *jonquilsaw_meaning(uint32_t number) {
         return "the PAM picture is not of DEPTH 4, MAXVAL 255 and TUPLTYPE RGB_ALPHA";
     case JONQUILSAW_INVALID_GROUP: return "the jobs make no group, or it has no such job";
     case JONQUILSAW_GROUP_TOO_LARGE: return "there are more jobs than a group holds";
-    case JONQUILSAW_BOUNDARY: return "the layout is none, or the answer has too little room";
+    case JONQUILSAW_BOUNDARY: return "a layout or kind is none, or a lent slice is too short";
     default: return "no number of this library";
     }
 }

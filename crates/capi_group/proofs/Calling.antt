@@ -2,7 +2,7 @@
 -- one that is stored. Assumes nothing.
 use Prim.Native.Nat.{ℕ, _≤_}
 use mathlib.Core.Path.{_≡_, refl, sym, ap, _∙_}
-use mathlib.Core.Bool.{Bool, true, false, not}
+use mathlib.Core.Bool.{true, false, not}
 use mathlib.Core.List.{List}
 use lib.Dec.{ltb}
 use lib.ListN.{length}
@@ -21,7 +21,7 @@ use Rattle.capi_words.specs.Boundary.{boundary, boundaryFirst, storedWord}
 use Rattle.capi_words.proofs.Boundary.{kept-by, written-by, written-once, buffer-told, misuse-told, misuse-kept}
 use Rattle.capi_group_record.specs.declared.ToldPlans.{ToldPlans}
 use Rattle.capi_group_record.specs.declared.ToldGroup.{ToldGroup}
-use Rattle.capi_group_record.specs.GroupRecord.{plansLegal, plansOf, toldPlans, groupLegal, wordsGroup, toldGroup, storedGroup, groupFirst}
+use Rattle.capi_group_record.specs.GroupRecord.{plansLegal, plansOf, toldPlans, wordsGroup, toldGroup, storedGroup, groupFirst}
 use Rattle.capi_group_record.proofs.Groups.{plans-legal, plans-illegal, group-legal, group-illegal}
 use Rattle.capi_group.specs.GroupCalls.{numberOfStartGroup, workAfterStartGroup, recordAfterStartGroup, numberOfOfferGroup, recordAfterOfferGroup, workAfterOfferGroup, acceptedAfterOfferGroup, numberOfTakeGroup, recordAfterTakeGroup, outAfterTakeGroup, workAfterTakeGroup}
 

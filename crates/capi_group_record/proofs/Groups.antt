@@ -9,7 +9,7 @@ use native.Mathlib.Omega.{arith}
 use native.Mathlib.Numerals.{add-one}
 use native.Mathlib.Nat.{eq-or-lt-of-le, le-of-suc-le-suc, mul-le-mul-left}
 use lib.Dec.{leb}
-use lib.ListN.{length, getD, take, drop, set, replicate, length-set, length-append, drop-of-length-le, take-append-drop, List·getD-eq-default}
+use lib.ListN.{length, getD, take, drop, set, length-set, length-append, drop-of-length-le, take-append-drop, List·getD-eq-default}
 use lib.Seq.{getD-set-same, getD-set-other, take-all, drop-at, drop-cons, drop-set-lt, take-add, drop-drop}
 use borrow.Author.Tests.{leb-true, ltb-false, not-true, le-leb, lt-leb, lt-ltb, le-ltb}
 use borrow.Rule.Slice.PartMut.{putMid, same-len-mid}
@@ -22,7 +22,7 @@ use Rattle.group_parts.proofs.Cutting.{part-long, part-append}
 use Rattle.group_rules.specs.declared.Group.{Group}
 use Rattle.group_rules.specs.Group.{groupLimit, spare, jobAt, every, tooMany, looked}
 use Rattle.group_rules.proofs.Jobs.{every-none, every-more, every-one, every-of, every-not}
-use Rattle.capi_words.specs.Words.{isLayout, stored}
+use Rattle.capi_words.specs.Words.{isLayout}
 use Rattle.capi_words.proofs.Words.{stored-enough, stored-short}
 use Rattle.capi_record.specs.declared.Told.{Told}
 use Rattle.capi_record.specs.declared.Told.the-variants as told
@@ -340,6 +340,19 @@ module _ (g : Group) (rest : List ℕ) (few : g .count ≤ groupLimit) where
   group-read-back =
       ap (λ (js : List Job). record { count = g .count; jobs = js })
       (jobs-by-cong (λ i. wordsJob (jobWords (groupWords g ++ rest) i)) (jobAt (g .jobs)) (g .count) (λ i l. rw (written-job g rest i l) (own-job (jobAt (g .jobs) i))))
+
+-- so are lent words after a group was stored in them
+module _ (g : Group) (words : List ℕ) (few : g .count ≤ groupLimit) (enough : groupLength (g .count) ≤ length words) where
+  pub stored-legal : groupLegal (storedGroup g words) ≡ true
+  stored-legal = ap (λ (w : List ℕ). groupLegal w) (stored-all g words few enough) ∙ group-words-legal g (drop (groupLength (g .count)) words) few
+
+  pub stored-read-back : wordsGroup (storedGroup g words) ≡ counted g
+  stored-read-back = ap (λ (w : List ℕ). wordsGroup w) (stored-all g words few enough) ∙ group-read-back g (drop (groupLength (g .count)) words) few
+
+-- a group that has the record of zeros there already, as each that words tell, is read back as it is
+pub counted-again : (f : ℕ → Job) (n : ℕ) → n ≤ groupLimit → counted (groupBy f n) ≡ groupBy f n
+counted-again f n few =
+    ap (λ (js : List Job). record { count = n; jobs = js }) (jobs-by-cong (jobAt (jobsBy f n)) f n (λ i l. job-by f n i few l))
 
 -- ---- writing what was read
 pub record LegalGroup (words : List ℕ) : Type 0 where
