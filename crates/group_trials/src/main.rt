@@ -1,5 +1,5 @@
-// Runs groups: three previews of one small picture in one pass, then starts, takes and an offer that are turned away. The file `stdout` holds the numbers of SCOPE,
-// "Groups", and of each preview the bytes, in hexadecimal, that the original makes of that job alone.
+// Runs groups: three previews of one small picture in one pass, then starts and takes that are turned away. The file `stdout` holds the number of each call as
+// SCOPE, "Groups", has it, and of each row taken the bytes, in hexadecimal, that the original makes of that job alone.
 use group::offer_group;
 use group::take_group;
 use group_rules::GROUP_LIMIT;
@@ -21,7 +21,7 @@ fn main() {
     turned_away();
 }
 
-// ---- a picture of 3 by 6 to 2 by 2, four of its rows to 2 by 3, and 2 by 2 of it to 3 by 3
+// ---- a picture of 3 by 6 to 2 by 2, four of its rows to 2 by 3, and 2 by 2 of it to 2 by 3
 
 fn previews() {
     one_pass(
@@ -35,16 +35,10 @@ fn previews() {
 }
 
 fn one_pass(pixels: &[u8]) {
-    let mut work = [7u32; 57];
-    let mut all = [1u8; 16];
-    let mut rows = [1u8; 24];
-    let mut part = [1u8; 36];
+    let mut work = [7u32; 49];
     let started = start_group(three(), 3, &mut work);
     let fresh = started.group;
-    let done = turns(fresh, 5, pixels, &mut work, &mut all, &mut rows, &mut part);
-    hex_line(&all);
-    hex_line(&rows);
-    hex_line(&part);
+    let done = turns(fresh, 5, pixels, &mut work);
     counts(done);
 }
 
@@ -52,7 +46,7 @@ fn three() -> [Plan; GROUP_LIMIT] {
     let all = plan(0, 0, 3, 6, 2, 2);
     let mut plans = [all; GROUP_LIMIT];
     plans[1] = plan(0, 1, 3, 4, 2, 3);
-    plans[2] = plan(1, 3, 2, 2, 3, 3);
+    plans[2] = plan(1, 3, 2, 2, 2, 3);
     plans
 }
 
@@ -78,37 +72,22 @@ fn plan(x: u32, y: u32, width: u32, height: u32, target_width: u32, target_heigh
     }
 }
 
-fn turns(
-    fresh: Group,
-    times: u32,
-    pixels: &[u8],
-    work: &mut [u32],
-    all: &mut [u8],
-    rows: &mut [u8],
-    part: &mut [u8],
-) -> Group {
+fn turns(fresh: Group, times: u32, pixels: &[u8], work: &mut [u32]) -> Group {
     let mut group = fresh;
     let mut i = 0u32;
     while i < times {
-        group = turn(group, pixels, work, all, rows, part);
+        group = turn(group, pixels, work);
         i += 1;
     }
     group
 }
 
 // Offers all rows left and takes a row of each job; a call that is turned away leaves all as it was.
-fn turn(
-    group: Group,
-    pixels: &[u8],
-    work: &mut [u32],
-    all: &mut [u8],
-    rows: &mut [u8],
-    part: &mut [u8],
-) -> Group {
+fn turn(group: Group, pixels: &[u8], work: &mut [u32]) -> Group {
     let fed = offer_rest(group, pixels, work);
-    let one = take_row(fed, 0, work, all);
-    let two = take_row(one, 1, work, rows);
-    take_row(two, 2, work, part)
+    let one = take_row(fed, 0, work);
+    let two = take_row(one, 1, work);
+    take_row(two, 2, work)
 }
 
 // The source's rows that the group has not accepted.
@@ -124,19 +103,13 @@ fn offer_rest(group: Group, pixels: &[u8], work: &mut [u32]) -> Group {
     offered.group
 }
 
-// The next row of a job, at its place in the preview.
-fn take_row(group: Group, i: usize, work: &mut [u32], out: &mut [u8]) -> Group {
-    if i >= GROUP_LIMIT {
-        return group;
-    }
-    let job = group.jobs[i];
-    let row = row_bytes(job.plan, job.plan.target.width);
-    let at = place(row, job.taken, out.len());
-    let end = place(row, std::num::wrapping_add_u32(job.taken, 1), out.len());
-    if end < at {
-        return group;
-    }
-    let taken = take_group(group, i as u32, &mut out[at..end], work);
+// The next row of a job.
+fn take_row(group: Group, i: u32, work: &mut [u32]) -> Group {
+    let mut row = [1u8; 8];
+    let taken = take_group(group, i, &mut row, work);
+    let answer = taken.answer;
+    number(answer);
+    hex_line(&row);
     taken.group
 }
 
@@ -165,7 +138,7 @@ fn starts() {
 
 // As many values as all jobs need; those of one job
 fn enough() {
-    let mut work = [7u32; 56];
+    let mut work = [7u32; 48];
     let mut own = [7u32; 16];
     start_line(three(), 3, &mut work);
     start_line(three(), 1, &mut own);
@@ -173,13 +146,13 @@ fn enough() {
 
 // One value too few
 fn short() {
-    let mut work = [7u32; 55];
+    let mut work = [7u32; 47];
     start_line(three(), 3, &mut work);
 }
 
 // as many jobs as there may be; one more; one more, the last of the others cropped beyond its source, which is ahead of 14
 fn many() {
-    let mut work = [7u32; 136];
+    let mut work = [7u32; 128];
     start_line(three(), GROUP_LIMIT as u32, &mut work);
     start_line(three(), GROUP_LIMIT as u32 + 1, &mut work);
     start_line(
@@ -246,7 +219,7 @@ fn start_line(plans: [Plan; GROUP_LIMIT], count: u32, work: &mut [u32]) {
 // ---- takes, after three rows, which make a row of all but the last job
 
 fn turned_away() {
-    let mut work = [7u32; 56];
+    let mut work = [7u32; 48];
     let rows = [9u8; 72];
     takes(&rows, &mut work);
 }
@@ -272,9 +245,8 @@ fn lengths(group: Group) {
 
 // None ready, and one
 fn ready(group: Group, work: &mut [u32]) {
-    let mut wide = [1u8; 12];
     let mut row = [1u8; 8];
-    take_line(group, 2, &mut wide, work);
+    take_line(group, 2, &mut row, work);
     take_line(group, 1, &mut row, work);
 }
 
