@@ -5,7 +5,6 @@
 mod also;
 mod header;
 
-use also::Asked;
 use also::Words;
 use also::also;
 use also::ask;
@@ -339,16 +338,6 @@ fn preview(form: Form, source: Dimensions, crop: Rect, sides: Dimensions) {
     }
 }
 
-// The preview that is asked for, or all of them where there are more.
-fn previews(form: Form, source: Dimensions, crop: Rect, asked: Asked) {
-    if asked.count == 1 {
-        let main = asked.targets[0];
-        preview(form, source, crop, main.sides);
-        return;
-    }
-    also(form, source, crop, asked);
-}
-
 // The crop, or the whole picture where the arguments name none.
 fn crop_of(source: Dimensions, cropped: bool, crop: Rect) -> Rect {
     if cropped {
@@ -357,7 +346,7 @@ fn crop_of(source: Dimensions, cropped: bool, crop: Rect) -> Rect {
     Rect::new(0, 0, source.width, source.height)
 }
 
-// ---- the two forms
+// ---- the two forms. Each calls `preview` or `also` itself: a function that did it for both would take the stack of both for either.
 
 fn say_usage() {
     say(
@@ -385,7 +374,11 @@ fn preview_raw(words: Words) {
         };
         let asked = ask(words, sides);
         if asked.going {
-            previews(Form::Raw, source, crop, asked);
+            if asked.count == 1 {
+                preview(Form::Raw, source, crop, sides);
+                return;
+            }
+            also(Form::Raw, source, crop, asked);
         }
     }
 }
@@ -408,7 +401,11 @@ fn preview_pam(words: Words) {
             let head = read_header();
             if let Head::Size(source) = head {
                 let crop = crop_of(source, count == 7, Rect::new(n[2], n[3], n[4], n[5]));
-                previews(Form::Pam, source, crop, asked);
+                if asked.count == 1 {
+                    preview(Form::Pam, source, crop, sides);
+                    return;
+                }
+                also(Form::Pam, source, crop, asked);
             }
         }
     }
