@@ -1,12 +1,8 @@
-// The calls of a group (SCOPE, "Groups"): an offer of source rows to all its jobs, and a take of one job's next row.
+// An offer of source rows to all jobs of a group (SCOPE, "Groups"). specs/Calls.antt has its take, too, which crates/group_take makes.
 use group_rules::Group;
-use group_rules::check_group;
-use group_tests::Placed;
 use group_tests::check_group_offer;
-use group_tests::check_group_take;
 use group_tests::some_ready;
 use job::Job;
-use job::Taken;
 use job_rules::row_bytes;
 use job_rules::row_form;
 use pixels::Checked;
@@ -14,27 +10,19 @@ use rows_in::put_source_row;
 ghost use mathlib.Core.Path.{_≡_};
 ghost use mathlib.Core.Bool.{true};
 ghost use Prim.Native.Nat.{_+_, _≤_};
-ghost use lib.ListN.{length, set};
+ghost use lib.ListN.{length};
 ghost use Rattle.pixels.specs.Refusals.{checkedNumber};
-ghost use Rattle.job.specs.Answers.{takenJob};
-ghost use Rattle.job.specs.Calls as job;
 ghost use Rattle.job.specs.Calls.{rowAccepted, fed, moreAccepted};
-ghost use Rattle.group_parts.specs.Parts.{partAt, putAt, eachPart};
-ghost use Rattle.group_rules.specs.Group.{jobAt, planAt, eachJob, needs, total, groupLawful};
-ghost use Rattle.group_rules.specs.Tests.{groupOfferNumber, groupTakeNumber};
+ghost use Rattle.group_parts.specs.Parts.{eachPart};
+ghost use Rattle.group_rules.specs.Group.{jobAt, planAt, eachJob, needs, groupLawful};
+ghost use Rattle.group_rules.specs.Tests.{groupOfferNumber};
 ghost use Rattle.group.specs.Inner.{RowForAll};
-ghost use Rattle.group.specs.Calls.{mostRows, groupCount, withJobs, groupReady, groupOfferRows, groupOffered, groupOfferWork, groupTaken, groupTakeOut, groupTakeWork};
+ghost use Rattle.group.specs.Calls.{mostRows, groupCount, withJobs, groupOfferRows, groupOffered, groupOfferWork};
 
 // Whether rows were accepted, or why none; how many; and the next record.
 pub struct OfferedGroup {
     pub answer: Checked,
     pub rows: u32,
-    pub group: Group,
-}
-
-// Whether a row was written, or why not; and the next record.
-pub struct TakenGroup {
-    pub answer: Checked,
     pub group: Group,
 }
 
@@ -131,49 +119,7 @@ fn all_more(g: Group, c: u32) -> Group
     next
 }
 
-// ---- a row goes out
-
-fn taken_job(t: Taken) -> Job
-    ensures { λ r. ⌜ r ≡ takenJob t ⌝ }
-{
-    match t {
-        Taken::Wrote { job: j } => j,
-        Taken::Refused { why: _, job: j } => j,
-    }
-}
-
-// Job k's own take, on its part of the work values, which starts at `at`.
-fn take_part(mut g: Group, k: usize, at: usize, out: &mut [u8], work: &mut [u32]) -> Group
-    requires { ⌜ (groupTakeNumber g k (length (now out)) (length (now work)) ≡ 0) × (at ≡ total (g .jobs) k) ⌝ }
-    ensures group { λ r. ⌜ r ≡ withJobs g (set (g .jobs) k (job.takeJob (jobAt (g .jobs) k) (length (now (out .entry))) (partAt (needs (g .jobs)) k (now (work .entry))))) ⌝ }
-    ensures out { λ _. ⌜ now (out .exit) ≡ job.takeOut (jobAt (g .jobs) k) (now (out .entry)) (partAt (needs (g .jobs)) k (now (work .entry))) ⌝ }
-    ensures work { λ _. ⌜ now (work .exit) ≡ putAt (total (g .jobs) k) (needs (g .jobs) k) (now (work .entry)) (job.takeWork (jobAt (g .jobs) k) (length (now (out .entry))) (partAt (needs (g .jobs)) k (now (work .entry)))) ⌝ }
-{
-    let j = g.jobs[k];
-    let half = row_bytes(j.plan, j.plan.target.width);
-    let end = at + 2 * half;
-    let t = j.take(out, &mut work[at..end]);
-    let next = taken_job(t);
-    g.jobs[k] = next;
-    g
-}
-
-// ---- the calls
-
-// The rows ready of a job, counted from 0; none of a group that breaks the rules, nor of a job that it lacks.
-// Rules out: a row ready of a job beyond the count; the rows taken in place of the rows ready.
-pub fn group_ready(g: Group, job: u32) -> u32
-    ensures { λ r. ⌜ r ≡ groupReady g job ⌝ }
-{
-    if !check_group(g) {
-        return 0;
-    }
-    if g.count <= job {
-        return 0;
-    }
-    let j = g.jobs[job as usize];
-    j.ready()
-}
+// ---- the call
 
 // Offers one or more whole source rows to all jobs; returns how many were accepted.
 // Rules out: rows counted by the first job alone, past the first that makes a row ready in another; parts cut one value too late.
@@ -201,29 +147,5 @@ pub fn offer_group(g: Group, rows: &[u8], work: &mut [u32]) -> OfferedGroup
         answer: Checked::Fit,
         rows: c,
         group: next,
-    }
-}
-
-// Takes the next output row of a job, counted from 0.
-// Rules out: the record of the named job not advanced; a take on the first job's part.
-pub fn take_group(g: Group, job: u32, out: &mut [u8], work: &mut [u32]) -> TakenGroup
-    ensures number { λ r. ⌜ checkedNumber (r .answer) ≡ groupTakeNumber g job (length (now (out .entry))) (length (now (work .entry))) ⌝ }
-    ensures group { λ r. ⌜ r .group ≡ groupTaken g job (length (now (out .entry))) (now (work .entry)) ⌝ }
-    ensures out { λ _. ⌜ now (out .exit) ≡ groupTakeOut g job (now (out .entry)) (now (work .entry)) ⌝ }
-    ensures work { λ _. ⌜ now (work .exit) ≡ groupTakeWork g job (length (now (out .entry))) (now (work .entry)) ⌝ }
-{
-    let placed = check_group_take(g, job, out.len(), work.len());
-    match placed {
-        Placed::Refused { why } => TakenGroup {
-            answer: Checked::Refused(why),
-            group: g,
-        },
-        Placed::At { place } => {
-            let next = take_part(g, job as usize, place, out, work);
-            TakenGroup {
-                answer: Checked::Fit,
-                group: next,
-            }
-        }
     }
 }

@@ -1,10 +1,10 @@
 // Runs groups: three previews of one small picture in one pass, then starts and takes that are turned away. The file `stdout` holds the number of each call as
 // SCOPE, "Groups", has it, and of each row taken the bytes, in hexadecimal, that the original makes of that job alone.
 use group::offer_group;
-use group::take_group;
 use group_rules::GROUP_LIMIT;
 use group_rules::Group;
 use group_start::start_group;
+use group_take::take_group;
 use job::Job;
 use job_rules::Kind;
 use job_rules::Plan;

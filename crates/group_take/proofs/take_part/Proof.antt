@@ -7,12 +7,12 @@ use lib.ListN.{length, set}
 use Rattle.job.specs.declared.Job.{Job}
 use Rattle.job.specs.Calls as job
 use Rattle.group_rules.specs.Group.{jobAt}
 use Rattle.group.specs.Calls.{withJobs}
 use Rattle.group_rules.proofs.Going.{group-take-goes}
 use Rattle.group.proofs.Going.{take-within, take-small, take-fits, take-cut, take-put}
 use borrow.Author.Needs.{needs}
-use Rattle.group.proofs.take_part.Statement.{statement}
-use Rattle.group.proofs.take_part.Tie as tie
+use Rattle.group_take.proofs.take_part.Statement.{statement}
+use Rattle.group_take.proofs.take_part.Tie as tie
 
 mul-j : tie.Need-mul-j
 mul-j c =

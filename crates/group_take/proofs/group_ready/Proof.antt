@@ -2,10 +2,10 @@
 use native.Mathlib.Omega.{arith}
 use Rattle.group_rules.proofs.Lawful.{lawful-group}
 use Rattle.group_tests.proofs.Testing.{lawful-is}
-use Rattle.group.proofs.Answering.{ready-broken, ready-lacking, ready-job}
+use Rattle.group_take.proofs.Answering.{ready-broken, ready-lacking, ready-job}
 use borrow.Author.Needs.{needs}
-use Rattle.group.proofs.group_ready.Statement.{statement}
-use Rattle.group.proofs.group_ready.Tie as tie
+use Rattle.group_take.proofs.group_ready.Statement.{statement}
+use Rattle.group_take.proofs.group_ready.Tie as tie
 
 check-group-requires : tie.Need-check-group-requires
 check-group-requires c κs = search needs

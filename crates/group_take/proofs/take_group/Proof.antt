@@ -2,10 +2,10 @@
 use mathlib.Core.Path.{_≡_, sym}
 use lib.ListN.{length}
 use Rattle.group_rules.specs.Tests.{groupTakeNumber}
-use Rattle.group.proofs.Answering.{place-here, take-refused, take-writes}
+use Rattle.group_take.proofs.Answering.{place-here, take-refused, take-writes}
 use borrow.Author.Needs.{needs}
-use Rattle.group.proofs.take_group.Statement.{statement}
-use Rattle.group.proofs.take_group.Tie as tie
+use Rattle.group_take.proofs.take_group.Statement.{statement}
+use Rattle.group_take.proofs.take_group.Tie as tie
 
 check-group-take-requires : tie.Need-check-group-take-requires
 check-group-take-requires c κs = search needs

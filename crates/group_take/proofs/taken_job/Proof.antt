@@ -2,8 +2,8 @@
 use mathlib.Core.Path.{sym, ap}
 use Rattle.job.specs.Answers.{takenJob}
 use borrow.Author.Needs.{needs}
-use Rattle.group.proofs.taken_job.Statement.{statement}
-use Rattle.group.proofs.taken_job.Tie as tie
+use Rattle.group_take.proofs.taken_job.Statement.{statement}
+use Rattle.group_take.proofs.taken_job.Tie as tie
 
 enum-known-t : tie.Need-enum-known-t
 enum-known-t c = search needs
