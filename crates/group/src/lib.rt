@@ -122,7 +122,7 @@ fn all_more(g: Group, c: u32) -> Group
 // ---- the call
 
 // Offers one or more whole source rows to all jobs; returns how many were accepted.
-// Rules out: rows counted by the first job alone, past the first that makes a row ready in another; parts cut one value too late.
+// Rules out: rows counted by the first job alone; an offer that goes on past the first row that makes a row ready; parts cut one value too late.
 pub fn offer_group(g: Group, rows: &[u8], work: &mut [u32]) -> OfferedGroup
     ensures number { λ r. ⌜ checkedNumber (r .answer) ≡ groupOfferNumber g (length (now (rows .entry))) (length (now (work .entry))) ⌝ }
     ensures rows { λ r. ⌜ r .rows ≡ groupOfferRows g (length (now (rows .entry))) (length (now (work .entry))) ⌝ }
