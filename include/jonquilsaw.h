@@ -27,9 +27,9 @@ extern "C" {
 #endif
 
 #define JONQUILSAW_VERSION_MAJOR 0
-#define JONQUILSAW_VERSION_MINOR 5
+#define JONQUILSAW_VERSION_MINOR 6
 #define JONQUILSAW_VERSION_PATCH 0
-#define JONQUILSAW_VERSION "0.5.0"
+#define JONQUILSAW_VERSION "0.6.0"
 
 /* The largest side of a picture or a plane. */
 #define JONQUILSAW_MAX_SIDE 16384u
@@ -51,6 +51,19 @@ extern "C" {
 #define JONQUILSAW_WORK_WORDS_OF(lanes, target_width) ((size_t)2 * (lanes) * (target_width))
 #define JONQUILSAW_WORK_WORDS(target_width)                                                        \
     JONQUILSAW_WORK_WORDS_OF(JONQUILSAW_PIXEL_LANES, target_width)
+
+/* The most jobs of a group. */
+#define JONQUILSAW_GROUP_LIMIT 8u
+
+/* How many words the plan of a group's job takes. In their order: source width and height; layout;
+ * crop x, y, width and height; target width and height; the kind, 0 for a picture and 1 for a plane;
+ * the lanes. A picture has 4 lanes, whatever the last word says, and a plane the layout
+ * JONQUILSAW_RGBA8, whatever layout its third word names. */
+#define JONQUILSAW_PLAN_WORDS 11u
+
+/* How many words the record of a group of so many jobs takes: how many they are, then the words of
+ * each job's record. Words after them are never read or written. */
+#define JONQUILSAW_GROUP_WORDS(count) ((size_t)1 + (size_t)JONQUILSAW_RECORD_WORDS * (count))
 
 /* The most bytes that the header of a PAM picture takes, as it is written here. */
 #define JONQUILSAW_PAM_HEADER_MOST 73u
@@ -82,11 +95,12 @@ typedef enum jonquilsaw_number {
     JONQUILSAW_PIXEL_BUFFER_MISMATCH = 3,
     /* an output buffer not of the exact length */
     JONQUILSAW_OUTPUT_LENGTH = 4,
-    /* fewer than 2 x lanes x target width work values */
+    /* fewer than 2 x lanes x target width work values; of a group, than its jobs need together */
     JONQUILSAW_WORK_LENGTH = 5,
     /* a record that is none: too few words; a layout, flag or kind word that is none; sizes or counts
      * that no job can have; a picture of other than 4 lanes; a plane of other than 1 to 4 lanes, with
-     * the flag set or with another layout than JONQUILSAW_RGBA8 */
+     * the flag set or with another layout than JONQUILSAW_RGBA8. A group's record: also jobs that
+     * differ in rows accepted, and a group that a start would have refused with 13 or 14 */
     JONQUILSAW_INVALID_RECORD = 6,
     /* an offer while an output row is ready: take it first */
     JONQUILSAW_ROW_READY = 7,
@@ -103,8 +117,13 @@ typedef enum jonquilsaw_number {
     /* a PAM header inside the form with a depth other than 4, a maximum other than 255, or not
      * exactly one tuple type, RGB_ALPHA; tested straight after 11 */
     JONQUILSAW_PAM_UNSUPPORTED = 12,
-    /* a layout argument that is none, or a slice for the answer that is too short; tested before all
-     * others */
+    /* a group of no jobs, or of jobs that differ in source size, layout, kind or lanes, tested
+     * straight after 2; a take of a job that the group lacks, tested straight after 6 */
+    JONQUILSAW_INVALID_GROUP = 13,
+    /* a group of more than JONQUILSAW_GROUP_LIMIT jobs; tested straight after 13 */
+    JONQUILSAW_GROUP_TOO_LARGE = 14,
+    /* a layout argument that is none, or a slice for the answer that is too short; of a group's plans
+     * too few words, or a layout or kind word that is none; tested before all others */
     JONQUILSAW_BOUNDARY = 100
 } jonquilsaw_number;
 
@@ -152,6 +171,34 @@ uint32_t jonquilsaw_offer(uint32_t *record, size_t record_count, const uint8_t *
  * picture. Moves the record and the work values on. Refuses with 6, 4, 5, 9, in this order. */
 uint32_t jonquilsaw_take(uint32_t *record, size_t record_count, uint8_t *out, size_t out_count,
                          uint32_t *work, size_t work_count);
+
+/* Starts a group: count jobs over one source, all offered the same rows in one pass. Plans has the
+ * words of each job's plan, one after another; of more than JONQUILSAW_GROUP_LIMIT only the first so
+ * many are looked at. Each job is the one that jonquilsaw_start or jonquilsaw_start_plane would start;
+ * they need the same source size, layout, kind and lanes. One slice of work values is cut among them
+ * in the order given: the part of a job, 2 x lanes x target width values, starts where the part before
+ * it ends. Writes the fresh record to the first JONQUILSAW_GROUP_WORDS(count) of the record's words
+ * and clears all parts. Refuses with 100 (too few words of plans or of record for the jobs looked at,
+ * or a layout or a kind of a plan that is none), 1, 10, 2, 13, 14, 5, in this order, each of them
+ * looked for over all jobs before the next. */
+uint32_t jonquilsaw_start_group(const uint32_t *plans, size_t plans_count, uint32_t count,
+                                uint32_t *work, size_t work_count, uint32_t *record,
+                                size_t record_count);
+
+/* Offers one or more whole source rows to all jobs of a group, from the first that was not accepted
+ * yet. It stops at the first row that makes a preview row of any job ready, at the last row offered or
+ * at the source's last. Writes how many rows were accepted, at least one, to the first word of
+ * accepted; offer the rest again after taking what is ready. Each job moves on as it would alone.
+ * Refuses with 100 (no word of accepted), 6, 3, 5, 7 (a row of any job is ready), 8, in this order. */
+uint32_t jonquilsaw_offer_group(uint32_t *record, size_t record_count, const uint8_t *rows,
+                                size_t rows_count, uint32_t *work, size_t work_count,
+                                uint32_t *accepted, size_t accepted_count);
+
+/* Takes the next preview row of one job of a group, counted from 0: exactly lanes x its target width
+ * bytes, those that it would hand out alone. Refuses with 6, 13 (there is no such job), 4, 5 (fewer
+ * work values than all jobs need together), 9, in this order. */
+uint32_t jonquilsaw_take_group(uint32_t *record, size_t record_count, uint32_t job, uint8_t *out,
+                               size_t out_count, uint32_t *work, size_t work_count);
 
 /* Copies the crop of a picture to out, exactly 4 x crop width x crop height bytes, and writes its
  * alpha flag, 0 or 1, to the first word of flag. Refuses with 100 (no word of flag, or a layout
@@ -265,7 +312,9 @@ static inline const char *jonquilsaw_meaning(uint32_t number) {
     case JONQUILSAW_PAM_MALFORMED: return "the PAM header is outside the form";
     case JONQUILSAW_PAM_UNSUPPORTED:
         return "the PAM picture is not of DEPTH 4, MAXVAL 255 and TUPLTYPE RGB_ALPHA";
-    case JONQUILSAW_BOUNDARY: return "the layout is none, or the answer has too little room";
+    case JONQUILSAW_INVALID_GROUP: return "the jobs make no group, or it has no such job";
+    case JONQUILSAW_GROUP_TOO_LARGE: return "there are more jobs than a group holds";
+    case JONQUILSAW_BOUNDARY: return "a layout or kind is none, or a lent slice is too short";
     default: return "no number of this library";
     }
 }
@@ -305,6 +354,12 @@ typedef struct jonquilsaw_job {
 typedef struct jonquilsaw_planes {
     jonquilsaw_job luma, cb, cr;
 } jonquilsaw_planes;
+
+/* A group's record: the words of JONQUILSAW_GROUP_WORDS, with room for as many jobs as a group may
+ * have. */
+typedef struct jonquilsaw_group {
+    uint32_t words[JONQUILSAW_GROUP_WORDS(JONQUILSAW_GROUP_LIMIT)];
+} jonquilsaw_group;
 
 /* The crop that is all of a picture or a plane. */
 static inline jonquilsaw_rect jonquilsaw_whole(jonquilsaw_size size) {
@@ -394,6 +449,69 @@ static inline size_t jonquilsaw_job_row_bytes(const jonquilsaw_job *job) {
 }
 static inline size_t jonquilsaw_job_out_bytes(const jonquilsaw_job *job) {
     return (size_t)job->words[13] * job->words[7];
+}
+
+/* One plan's words, at the beginning of words. */
+static inline void jonquilsaw_plan_words(uint32_t *words, jonquilsaw_size source, uint32_t layout,
+                                         jonquilsaw_rect crop, jonquilsaw_size target, uint32_t kind,
+                                         uint32_t lanes) {
+    const uint32_t plan[JONQUILSAW_PLAN_WORDS] = {source.width, source.height, layout,
+                                                  crop.x,       crop.y,        crop.width,
+                                                  crop.height,  target.width,  target.height,
+                                                  kind,         lanes};
+    for (uint32_t i = 0; i < JONQUILSAW_PLAN_WORDS; i++) words[i] = plan[i];
+}
+
+/* jonquilsaw_start_group, of pictures. The work values needed are the sum of
+ * JONQUILSAW_WORK_WORDS(plans[i].target.width). */
+static inline uint32_t jonquilsaw_group_start(jonquilsaw_group *group, const jonquilsaw_plan *plans,
+                                              uint32_t count, uint32_t *work, size_t work_count) {
+    uint32_t words[JONQUILSAW_PLAN_WORDS * JONQUILSAW_GROUP_LIMIT];
+    for (uint32_t i = 0; i < count && i < JONQUILSAW_GROUP_LIMIT; i++)
+        jonquilsaw_plan_words(words + JONQUILSAW_PLAN_WORDS * i, plans[i].source, plans[i].layout,
+                              plans[i].crop, plans[i].target, JONQUILSAW_PICTURE,
+                              JONQUILSAW_PIXEL_LANES);
+    return jonquilsaw_start_group(words, sizeof words / sizeof *words, count, work, work_count,
+                                  group->words, sizeof group->words / sizeof *group->words);
+}
+
+/* The same of planes: the sum of JONQUILSAW_WORK_WORDS_OF(lanes, plans[i].target.width). */
+static inline uint32_t jonquilsaw_group_start_planes(jonquilsaw_group *group,
+                                                     const jonquilsaw_plane_plan *plans,
+                                                     uint32_t count, uint32_t *work,
+                                                     size_t work_count) {
+    uint32_t words[JONQUILSAW_PLAN_WORDS * JONQUILSAW_GROUP_LIMIT];
+    for (uint32_t i = 0; i < count && i < JONQUILSAW_GROUP_LIMIT; i++)
+        jonquilsaw_plan_words(words + JONQUILSAW_PLAN_WORDS * i, plans[i].source, JONQUILSAW_RGBA8,
+                              plans[i].crop, plans[i].target, JONQUILSAW_PLANE, plans[i].lanes);
+    return jonquilsaw_start_group(words, sizeof words / sizeof *words, count, work, work_count,
+                                  group->words, sizeof group->words / sizeof *group->words);
+}
+
+/* jonquilsaw_offer_group; accepted becomes the number of rows accepted. */
+static inline uint32_t jonquilsaw_group_offer(jonquilsaw_group *group, const uint8_t *rows,
+                                              size_t rows_count, uint32_t *work, size_t work_count,
+                                              uint32_t *accepted) {
+    return jonquilsaw_offer_group(group->words, sizeof group->words / sizeof *group->words, rows,
+                                  rows_count, work, work_count, accepted, 1);
+}
+
+/* jonquilsaw_take_group. */
+static inline uint32_t jonquilsaw_group_take(jonquilsaw_group *group, uint32_t job, uint8_t *out,
+                                             size_t out_count, uint32_t *work, size_t work_count) {
+    return jonquilsaw_take_group(group->words, sizeof group->words / sizeof *group->words, job, out,
+                                 out_count, work, work_count);
+}
+
+/* How many jobs, and the record of one of them: job is below jonquilsaw_group_count. */
+static inline uint32_t jonquilsaw_group_count(const jonquilsaw_group *group) {
+    return group->words[0];
+}
+static inline jonquilsaw_job jonquilsaw_group_job(const jonquilsaw_group *group, uint32_t job) {
+    jonquilsaw_job record;
+    for (uint32_t i = 0; i < JONQUILSAW_RECORD_WORDS; i++)
+        record.words[i] = group->words[JONQUILSAW_GROUP_WORDS(job) + i];
+    return record;
 }
 
 /* jonquilsaw_crop. */

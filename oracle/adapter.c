@@ -5,6 +5,7 @@
 #include "jonquilsaw.h"
 
 _Static_assert(OURS_RECORD == JONQUILSAW_RECORD_WORDS, "a record's words");
+_Static_assert(OURS_PLAN == JONQUILSAW_PLAN_WORDS, "a plan's words");
 
 /* The record that a start writes lies apart from its arguments; what it writes beside a success is seen as a difference. */
 static void blank(uint32_t fresh[OURS_RECORD]) {
@@ -50,6 +51,18 @@ uint32_t ours_offer(uint32_t record[OURS_RECORD], const uint8_t* bytes, size_t l
 
 uint32_t ours_take(uint32_t record[OURS_RECORD], uint8_t* out, size_t out_len, uint32_t* work, size_t work_len) {
   return jonquilsaw_take(record, OURS_RECORD, out, out_len, work, work_len);
+}
+
+uint32_t ours_start_group(const uint32_t* plans, size_t plans_len, uint32_t count, uint32_t* work, size_t work_len, uint32_t* record, size_t record_len) {
+  return jonquilsaw_start_group(plans, plans_len, count, work, work_len, record, record_len);
+}
+
+uint32_t ours_offer_group(uint32_t* record, size_t record_len, const uint8_t* bytes, size_t len, uint32_t* work, size_t work_len, uint32_t* rows) {
+  return jonquilsaw_offer_group(record, record_len, bytes, len, work, work_len, rows, 1);
+}
+
+uint32_t ours_take_group(uint32_t* record, size_t record_len, uint32_t job, uint8_t* out, size_t out_len, uint32_t* work, size_t work_len) {
+  return jonquilsaw_take_group(record, record_len, job, out, out_len, work, work_len);
 }
 
 uint32_t ours_resize(uint32_t layout, uint32_t w, uint32_t h, uint32_t tw, uint32_t th, const uint8_t* pixels, size_t len, uint8_t* out, size_t out_len,

@@ -137,9 +137,11 @@ static void scaled(const uint64_t* v) {
   printf("%u %u %u\n", n, n == 0 ? w : 0, n == 0 ? h : 0);
 }
 
-static void put_record(const uint32_t r[OURS_RECORD]) {
-  for (int i = 0; i < OURS_RECORD; ++i) printf("%c%u", i ? ',' : ' ', r[i]);
+static void put_words(const uint32_t* r, size_t n) {
+  for (size_t i = 0; i < n; ++i) printf("%c%u", i ? ',' : ' ', r[i]);
 }
+
+static void put_record(const uint32_t r[OURS_RECORD]) { put_words(r, OURS_RECORD); }
 
 static void put_work(const Buffer* work) { printf(" %016llx", (unsigned long long)fnv_words(work)); }
 
@@ -235,6 +237,68 @@ static void three(const uint64_t* v, char* at) {
   printf(" %d\n", kept);
 }
 
+/* A group of jobs: the words of its record, its work values, its source, and the job that takes name. */
+typedef struct {
+  Buffer record, work, px;
+  uint32_t named;
+} Group;
+
+static void put_group(const Group* g) {
+  put_words((const uint32_t*)g->record.at, g->record.n / 4);
+  put_work(&g->work);
+}
+
+/* As `call`. */
+static int group_call(Group* g, char kind, char** at) {
+  uint32_t *const record = (uint32_t*)g->record.at, *const work = (uint32_t*)g->work.at;
+  const size_t words = g->record.n / 4;
+  uint64_t a[3];
+  numbers(at, a, kind == 'o' ? 3 : kind == 'p' ? 1 : 2);
+  if (kind == 's') record[a[0]] = (uint32_t)a[1];
+  if (kind == 'p') g->named = (uint32_t)a[0];
+  if (kind == 's' || kind == 'p') return 1;
+  uint32_t* const before = malloc(g->work.n + 4);
+  int kept = 1;
+  memcpy(before, g->work.at, g->work.n);
+  if (kind == 'o') {
+    uint32_t count = 0;
+    const uint32_t n = ours_offer_group(record, words, g->px.at + a[0], a[1], work, a[2], &count);
+    printf(" %u %u", n, n == 0 ? count : 0);
+    kept = beyond_kept(&g->work, before, a[2]);
+  } else {
+    Buffer out = lend_out(a[0]);
+    printf(" %u ", ours_take_group(record, words, g->named, out.at, out.n, work, a[1]));
+    put_hex(out.at, out.n);
+    kept = give_back(out) & beyond_kept(&g->work, before, a[1]);
+  }
+  put_group(g);
+  free(before);
+  return kept;
+}
+
+/* v: count, plans, words of the record, work values, pattern, seed. */
+static void group(const uint64_t* v, char* at) {
+  Buffer plans = lend(4 * OURS_PLAN * v[1]);
+  uint32_t* const plan = (uint32_t*)plans.at;
+  Group g = {lend_words(v[2]), lend_words(v[3]), {0}, 0};
+  for (size_t i = 0; i < OURS_PLAN * v[1]; ++i) plan[i] = (uint32_t)number(&at);
+  keep(&plans);
+  const uint32_t n = ours_start_group(plan, OURS_PLAN * v[1], (uint32_t)v[0], (uint32_t*)g.work.at, v[3], (uint32_t*)g.record.at, v[2]);
+  int kept = 1;
+  printf("%u", n);
+  put_group(&g);
+  if (n == 0) {
+    /* the first job's record: all have one source */
+    const uint32_t* const r = (const uint32_t*)g.record.at + 1;
+    g.px = lend_pixels(r[2], v[4], v[5], (size_t)r[13] * r[0] * (r[1] + 2) + 8);
+    keep(&g.px);
+    for (const char* kind = word(&at); *kind; kind = word(&at)) kept &= group_call(&g, *kind, &at);
+    kept &= give_back(g.px);
+  }
+  kept &= give_back(plans) & give_back(g.record) & give_back(g.work);
+  printf(" %d\n", kept);
+}
+
 int main(void) {
   char* line = NULL;
   size_t room = 0;
@@ -253,6 +317,7 @@ int main(void) {
     else if (!strcmp(kind, "job")) numbers(&at, v, 12), job(v, at, 0);
     else if (!strcmp(kind, "lanes")) numbers(&at, v, 12), job(v, at, 1);
     else if (!strcmp(kind, "three")) numbers(&at, v, 9), three(v, at);
+    else if (!strcmp(kind, "group")) numbers(&at, v, 6), group(v, at);
     else puts("! no job");
   }
   return 0;

@@ -13,6 +13,9 @@
  * plane), lanes. */
 #define OURS_RECORD 14
 
+/* A plan: a record without rows accepted, rows taken and flag. */
+#define OURS_PLAN 11
+
 /* The record's first nine numbers are the arguments, also where start refuses, of a plane the lanes in the layout's place; on success all its numbers
  * become those of the fresh record. */
 uint32_t ours_start(uint32_t record[OURS_RECORD], uint32_t* work, size_t work_len);
@@ -23,6 +26,11 @@ uint32_t ours_start_planes(uint32_t w, uint32_t h, uint32_t tw, uint32_t th, uin
 /* On success *rows is the count accepted. The record becomes the one handed back, on refusal too. */
 uint32_t ours_offer(uint32_t record[OURS_RECORD], const uint8_t* bytes, size_t len, uint32_t* work, size_t work_len, uint32_t* rows);
 uint32_t ours_take(uint32_t record[OURS_RECORD], uint8_t* out, size_t out_len, uint32_t* work, size_t work_len);
+
+/* A group's record is the count of its jobs, then the record of each. A start that refuses leaves its words as they are. */
+uint32_t ours_start_group(const uint32_t* plans, size_t plans_len, uint32_t count, uint32_t* work, size_t work_len, uint32_t* record, size_t record_len);
+uint32_t ours_offer_group(uint32_t* record, size_t record_len, const uint8_t* bytes, size_t len, uint32_t* work, size_t work_len, uint32_t* rows);
+uint32_t ours_take_group(uint32_t* record, size_t record_len, uint32_t job, uint8_t* out, size_t out_len, uint32_t* work, size_t work_len);
 
 uint32_t ours_resize(uint32_t layout, uint32_t w, uint32_t h, uint32_t tw, uint32_t th, const uint8_t* pixels, size_t len, uint8_t* out, size_t out_len,
                      uint32_t* work, size_t work_len, uint32_t* flag);

@@ -52,7 +52,18 @@ typedef struct {
 } Plane;
 
 static const Plane kPlanes[] = {{1, 1920, 1080, 320, 180}, {3, 1920, 1080, 320, 180}, {1, 512, 512, 1024, 1024}};
-enum { JOBS = sizeof kJobs / sizeof kJobs[0], PLANES = sizeof kPlanes / sizeof kPlanes[0], MOST_ROUNDS = 1000 };
+
+/* Previews of one picture, uncropped, its rows lent to a group so many at a time. */
+static const Job kPreviews[] = {{"large", 4000, 3000, 0, 0, 4000, 3000, 320, 240},
+                                {"middle", 4000, 3000, 0, 0, 4000, 3000, 160, 120},
+                                {"small", 4000, 3000, 0, 0, 4000, 3000, 64, 48}};
+enum {
+  JOBS = sizeof kJobs / sizeof kJobs[0],
+  PLANES = sizeof kPlanes / sizeof kPlanes[0],
+  PREVIEWS = sizeof kPreviews / sizeof kPreviews[0],
+  ARRIVING = 8,
+  MOST_ROUNDS = 1000
+};
 
 typedef enum { ROWS, WHOLE, ORIGINAL, SIMD, PLAIN, SIDES } Side;
 static const char* const kSides[SIDES] = {"ours, by rows", "ours, whole", "original Rust", "libwebp SIMD", "libwebp plain C"};
@@ -243,7 +254,7 @@ static Figure figure(const double* values, int count) {
 }
 
 /* Of two sides, within each round. */
-static Figure ratio_of(double spent[SIDES][MOST_ROUNDS], Side a, Side b, int rounds) {
+static Figure ratio_of(double spent[][MOST_ROUNDS], int a, int b, int rounds) {
   static double ratios[MOST_ROUNDS];
   for (int r = 0; r < rounds; ++r) ratios[r] = spent[a][r] / spent[b][r];
   return figure(ratios, rounds);
@@ -372,6 +383,92 @@ static void measure_plane(const Plane* p, int rounds, double spent[SIDES][MOST_R
   free(noise), free(first), free(l.bytes), free(l.out), free(l.work);
 }
 
+/* The two ways to several previews: one pass by a group, and a pass for each. */
+enum { GROUP, PASSES, WAYS };
+
+static size_t previews_work(void) {
+  size_t n = 0;
+  for (int i = 0; i < PREVIEWS; ++i) n += JONQUILSAW_WORK_WORDS(kPreviews[i].tw);
+  return n;
+}
+
+static size_t previews_bytes(void) {
+  size_t n = 0;
+  for (int i = 0; i < PREVIEWS; ++i) n += target_bytes(&kPreviews[i]);
+  return n;
+}
+
+/* One pass: the rows arrive a few at a time, and each is scaled for all previews. */
+static void in_one_pass(uint32_t layout, const uint8_t* pixels, uint32_t* work, uint8_t* out) {
+  const uint32_t w = kPreviews[0].w, h = kPreviews[0].h;
+  const size_t row = (size_t)4 * w, words = previews_work();
+  uint32_t plans[PREVIEWS * JONQUILSAW_PLAN_WORDS], record[JONQUILSAW_GROUP_WORDS(PREVIEWS)], count = 0, left = 0;
+  const size_t lent = sizeof record / sizeof record[0];
+  uint8_t* next[PREVIEWS];
+  for (int i = 0; i < PREVIEWS; ++i) {
+    const Job* const j = &kPreviews[i];
+    const uint32_t plan[JONQUILSAW_PLAN_WORDS] = {w, h, layout, j->x, j->y, j->cw, j->ch, j->tw, j->th, JONQUILSAW_PICTURE, JONQUILSAW_PIXEL_LANES};
+    memcpy(plans + i * JONQUILSAW_PLAN_WORDS, plan, sizeof plan);
+    next[i] = out;
+    out += target_bytes(j);
+    left += j->th;
+  }
+  if (jonquilsaw_start_group(plans, PREVIEWS * JONQUILSAW_PLAN_WORDS, PREVIEWS, work, words, record, lent)) refuse("start_group");
+  for (uint32_t y = 0; y < h; y += count) {
+    const uint32_t arrived = y - y % ARRIVING + ARRIVING < h ? y - y % ARRIVING + ARRIVING : h;
+    if (jonquilsaw_offer_group(record, lent, pixels + y * row, (arrived - y) * row, work, words, &count, 1)) refuse("offer_group");
+    for (uint32_t i = 0; i < PREVIEWS; ++i) {
+      const size_t n = (size_t)4 * kPreviews[i].tw;
+      for (; jonquilsaw_take_group(record, lent, i, next[i], n, work, words) == JONQUILSAW_OK; --left) next[i] += n;
+    }
+  }
+  if (left) refuse("rows of a group are missing");
+}
+
+/* A pass of its own, which all rows left are lent to. */
+static void in_a_pass(const Job* j, uint32_t layout, const uint8_t* pixels, uint32_t* work, uint8_t* out) {
+  const size_t row = (size_t)4 * j->w, n = (size_t)4 * j->tw, words = JONQUILSAW_WORK_WORDS(j->tw);
+  uint32_t record[JONQUILSAW_RECORD_WORDS], count = 0, taken = 0;
+  if (jonquilsaw_start(j->w, j->h, layout, j->x, j->y, j->cw, j->ch, j->tw, j->th, work, words, record, JONQUILSAW_RECORD_WORDS)) refuse("start");
+  for (uint32_t y = 0; y < j->h; y += count) {
+    if (jonquilsaw_offer(record, JONQUILSAW_RECORD_WORDS, pixels + y * row, (j->h - y) * row, work, words, &count, 1)) refuse("offer");
+    for (; jonquilsaw_take(record, JONQUILSAW_RECORD_WORDS, out, n, work, words) == JONQUILSAW_OK; ++taken) out += n;
+  }
+  if (taken != j->th) refuse("rows are missing");
+}
+
+static double time_way(int way, uint32_t layout, const uint8_t* pixels, uint32_t* work, uint8_t* out) {
+  const double t = now();
+  if (way == GROUP) in_one_pass(layout, pixels, work, out);
+  for (int i = 0; way == PASSES && i < PREVIEWS; ++i) {
+    in_a_pass(&kPreviews[i], layout, pixels, work, out);
+    out += target_bytes(&kPreviews[i]);
+  }
+  return now() - t;
+}
+
+/* As `measure`: all previews together, in ns for each source pixel. */
+static void measure_previews(int translucent, int rounds, double spent[WAYS][MOST_ROUNDS]) {
+  const size_t n = source_pixels(&kPreviews[0]), out = previews_bytes();
+  uint32_t *const argb = room(4 * n), *const work = room(4 * previews_work());
+  uint8_t* const pixels = room(4 * n);
+  uint8_t* const made[WAYS] = {room(out), room(out)};
+  uint32_t state = 1;
+  for (size_t i = 0; i < n; ++i) argb[i] = next_pixel(&state, translucent);
+  for (int r = -1; r < rounds; ++r) { /* round -1 warms up */
+    const uint32_t layout = (uint32_t)(r + 1) % 3;
+    for (int k = 0; k < WAYS; ++k) {
+      const int way = (k + r + 1) % WAYS;
+      for (size_t i = 0; i < n; ++i) pack(layout, argb[i], pixels + 4 * i);
+      memset(made[way], 0x5c + way, out);
+      const double t = time_way(way, layout, pixels, work, made[way]);
+      if (r >= 0) spent[way][r] = t / (double)n;
+    }
+    if (memcmp(made[GROUP], made[PASSES], out)) refuse("a group and its jobs alone do not make the same bytes");
+  }
+  free(argb), free(work), free(pixels), free(made[GROUP]), free(made[PASSES]);
+}
+
 /* Peak memory: a translucent picture made by the process itself, nothing kept that the side does not need. */
 
 typedef struct {
@@ -455,7 +552,7 @@ static void heading(const char* first) {
   }
 }
 
-static void ratio(double spent[SIDES][MOST_ROUNDS], Side a, Side b, int rounds, int there) {
+static void ratio(double spent[][MOST_ROUNDS], int a, int b, int rounds, int there) {
   if (!there) {
     fputs(" - |", stdout);
     return;
@@ -526,6 +623,24 @@ static void plane_times(int wanted) {
   }
 }
 
+static void preview_times(int wanted) {
+  static double spent[WAYS][MOST_ROUNDS];
+  printf("\nPreviews, several of one picture: a group in one pass, lent %d rows at a time, and a job for each, one after another, lent all; ns ", ARRIVING);
+  puts("of processor time for each source pixel, all previews together, the rest as above:\n");
+  puts("| previews | one group | a job each | group / jobs |\n|---|---|---|---|");
+  for (int translucent = 0; translucent < 2; ++translucent) {
+    const int rounds = wanted ? wanted : 15;
+    measure_previews(translucent, rounds, spent);
+    printf("| %ux%u to", kPreviews[0].w, kPreviews[0].h);
+    for (int i = 0; i < PREVIEWS; ++i) printf("%s %ux%u", i == 0 ? "" : i + 1 < PREVIEWS ? "," : " and", kPreviews[i].tw, kPreviews[i].th);
+    printf(", %s |", translucent ? "translucent" : "opaque");
+    for (int way = 0; way < WAYS; ++way) printf(" %.2f |", figure(spent[way], rounds).median);
+    ratio(spent, GROUP, PASSES, rounds, 1);
+    putchar('\n');
+    fflush(stdout);
+  }
+}
+
 static void memory(char* program) {
   printf("\nPeak memory (VmHWM) of a process of its own for each, KiB; one that does nothing has %ld:\n\n", peak_of(program, SIDES, 0));
   fputs("| job |", stdout);
@@ -567,6 +682,7 @@ int main(int argc, char** argv) {
 #endif
   times((int)wanted);
   plane_times((int)wanted);
+  preview_times((int)wanted);
   memory(argv[0]);
   return 0;
 }

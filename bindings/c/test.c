@@ -1,5 +1,5 @@
-/* Calls every function of include/jonquilsaw.h: the trials of docs/SCOPE.md, planes against its formulas, PAM pictures, each refusal in its order, and that a
- * refused call leaves every buffer as it was.
+/* Calls every function of include/jonquilsaw.h: the trials of docs/SCOPE.md, planes against its formulas, PAM pictures, groups against their jobs alone, each refusal in its
+ * order, and that a refused call leaves every buffer as it was.
  * Every buffer is lent with a page behind it that cannot be touched, since the sanitizers look at this file only. Prints one line. */
 #define _DEFAULT_SOURCE
 #include "jonquilsaw.h"
@@ -388,10 +388,10 @@ static void with_types(void) {
     EXPECT(all_of.x == 0 && all_of.y == 0 && all_of.width == 2 && all_of.height == 3);
 
     /* each number has words of its own */
-    const uint32_t numbers[] = {0, 1, 2, 3, 4, 5, 6, 7, 8, 9, 10, 11, 12, 100, 101};
+    const uint32_t numbers[] = {0, 1, 2, 3, 4, 5, 6, 7, 8, 9, 10, 11, 12, 13, 14, 100, 101};
     for (size_t i = 0; i < sizeof numbers / sizeof *numbers; i++)
         for (size_t k = 0; k < i; k++) EXPECT(strcmp(jonquilsaw_meaning(numbers[i]), jonquilsaw_meaning(numbers[k])) != 0);
-    EXPECT(strcmp(jonquilsaw_meaning(13), jonquilsaw_meaning(4294967295u)) == 0);
+    EXPECT(strcmp(jonquilsaw_meaning(15), jonquilsaw_meaning(4294967295u)) == 0);
     char version[32];
     snprintf(version, sizeof version, "%d.%d.%d", JONQUILSAW_VERSION_MAJOR, JONQUILSAW_VERSION_MINOR, JONQUILSAW_VERSION_PATCH);
     EXPECT(strcmp(version, JONQUILSAW_VERSION) == 0);
@@ -998,6 +998,336 @@ static void pam(void) {
     pam_written();
 }
 
+/* ---- groups */
+
+/* A group's plan as words, and the words of a fresh record of it. */
+static void plan_of(uint32_t *words, uint32_t w, uint32_t h, uint32_t layout, jonquilsaw_rect crop, uint32_t m, uint32_t g, uint32_t kind, uint32_t lanes) {
+    const jonquilsaw_size source = {w, h}, target = {m, g};
+    jonquilsaw_plan_words(words, source, layout, crop, target, kind, lanes);
+}
+
+/* The job of a plan alone: its own start, in lent words. */
+static uint32_t start_alone(const uint32_t *p, uint32_t *work, size_t work_count, uint32_t *record, size_t record_count) {
+    if (p[9] == JONQUILSAW_PICTURE) return jonquilsaw_start(p[0], p[1], p[2], p[3], p[4], p[5], p[6], p[7], p[8], work, work_count, record, record_count);
+    return jonquilsaw_start_plane(p[0], p[1], p[10], p[3], p[4], p[5], p[6], p[7], p[8], work, work_count, record, record_count);
+}
+
+/* A group that is lent `most` rows at a time against each of its jobs alone, which is offered the rows that the group accepted: after every call records, work
+ * values and rows handed out are the same. Every buffer has a part behind what is needed, which stays as it was. */
+static void as_alone(const uint32_t *plans, uint32_t count, const uint8_t *pixels, uint32_t most) {
+    const uint32_t w = plans[0], h = plans[1], lanes = plans[9] == JONQUILSAW_PICTURE ? 4 : plans[10];
+    const size_t row = (size_t)lanes * w, words = JONQUILSAW_GROUP_WORDS(count);
+    uint32_t *record = words_of(words + 3, 66), *accepted = words_of(2, 55), *alone[JONQUILSAW_GROUP_LIMIT], *own[JONQUILSAW_GROUP_LIMIT], taken[JONQUILSAW_GROUP_LIMIT] = {0};
+    uint8_t *out[JONQUILSAW_GROUP_LIMIT], *own_out[JONQUILSAW_GROUP_LIMIT];
+    size_t need[JONQUILSAW_GROUP_LIMIT], at[JONQUILSAW_GROUP_LIMIT], total = 0;
+    for (uint32_t i = 0; i < count; i++) {
+        const uint32_t m = plans[11 * i + 7], g = plans[11 * i + 8];
+        need[i] = JONQUILSAW_WORK_WORDS_OF(lanes, m);
+        at[i] = total;
+        total += need[i];
+        alone[i] = words_of(14, 0);
+        own[i] = words_of(need[i], 7);
+        out[i] = bytes_of((size_t)lanes * m * g, 1);
+        own_out[i] = bytes_of((size_t)lanes * m * g, 2);
+        EXPECT(start_alone(plans + 11 * i, own[i], need[i], alone[i], 14) == 0);
+    }
+    uint32_t *work = words_of(total + 2, 77), done = 0;
+#define SAME                                                                                                                                                    \
+    for (uint32_t i = 0; i < count; i++)                                                                                                                         \
+        EXPECT(memcmp(record + JONQUILSAW_GROUP_WORDS(i), alone[i], 56) == 0 && memcmp(work + at[i], own[i], 4 * need[i]) == 0);                                 \
+    EXPECT(record[0] == count && words_all(record + words, 3, 66) && words_all(work + total, 2, 77) && accepted[1] == 55)
+    EXPECT(jonquilsaw_start_group(plans, (size_t)11 * count, count, work, total + 2, record, words + 3) == 0);
+    SAME;
+    while (done < h) {
+        const uint32_t rows = most < h - done ? most : h - done;
+        uint32_t fed = 0, first = 0;
+        accepted[0] = 0;
+        EXPECT(jonquilsaw_offer_group(record, words + 3, pixels + row * done, row * rows, work, total + 2, accepted, 2) == 0);
+        if (accepted[0] == 0 || accepted[0] > rows) {
+            fprintf(stderr, "bindings/c/test.c: %u rows accepted of %u by a group\n", accepted[0], rows);
+            exit(1);
+        }
+        for (uint32_t i = 0; i < count; i++) {
+            EXPECT(jonquilsaw_offer(alone[i], 14, pixels + row * done, row * accepted[0], own[i], need[i], &fed, 1) == 0);
+            EXPECT(fed == accepted[0]);
+        }
+        done += accepted[0];
+        SAME;
+        /* the last job first: the order of takes among jobs is free */
+        for (uint32_t k = count; k-- > 0;) {
+            const size_t line = (size_t)lanes * plans[11 * k + 7];
+            while (taken[k] < plans[11 * k + 8] && jonquilsaw_take_group(record, words + 3, k, out[k] + line * taken[k], line, work, total + 2) == 0) {
+                EXPECT(jonquilsaw_take(alone[k], 14, own_out[k] + line * taken[k], line, own[k], need[k]) == 0);
+                taken[k]++;
+                first++;
+                SAME;
+            }
+        }
+        /* it stopped at the last row offered, or since a row was ready */
+        EXPECT(accepted[0] == rows || first > 0);
+    }
+    for (uint32_t i = 0; i < count; i++) {
+        const size_t o = (size_t)lanes * plans[11 * i + 7] * plans[11 * i + 8];
+        EXPECT(taken[i] == plans[11 * i + 8] && memcmp(out[i], own_out[i], o) == 0);
+        give_back(out[i], o);
+        give_back(own_out[i], o);
+        give_back(own[i], 4 * need[i]);
+        give_back(alone[i], 56);
+    }
+    EXPECT(jonquilsaw_offer_group(record, words, pixels, row, work, total, accepted, 1) == JONQUILSAW_ALL_ACCEPTED);
+    give_back(record, 4 * (words + 3));
+    give_back(accepted, 8);
+    give_back(work, 4 * (total + 2));
+#undef SAME
+}
+
+/* Previews of one random picture and of one random plane, at once and alone. */
+static void groups_of_all_kinds(void) {
+    const jonquilsaw_rect all_of = {0, 0, 13, 17}, part = {2, 3, 9, 11}, strip = {5, 15, 3, 2};
+    uint8_t *pixels = bytes_of(4 * 13 * 17, 0);
+    uint32_t *plans = words_of(JONQUILSAW_PLAN_WORDS * JONQUILSAW_GROUP_LIMIT, 0);
+    for (size_t i = 0; i < 4 * 13 * 17; i++) pixels[i] = any_byte();
+    for (uint32_t form = 0; form < 3 + JONQUILSAW_MAX_LANES; form++) {
+        const uint32_t kind = form < 3 ? JONQUILSAW_PICTURE : JONQUILSAW_PLANE, layout = form < 3 ? form : 0, lanes = form < 3 ? 4 : form - 2;
+        const uint32_t most[] = {1, 3, 17};
+        plan_of(plans, 13, 17, layout, all_of, 5, 7, kind, lanes);
+        plan_of(plans + 11, 13, 17, layout, part, 20, 23, kind, lanes);
+        plan_of(plans + 22, 13, 17, layout, strip, 3, 2, kind, lanes);
+        /* as many as a group holds, all of other sizes */
+        for (uint32_t i = 3; i < JONQUILSAW_GROUP_LIMIT; i++) plan_of(plans + 11 * i, 13, 17, layout, i % 2 ? part : all_of, 1 + 2 * i, 19 - 2 * i, kind, lanes);
+        for (size_t i = 0; i < sizeof most / sizeof *most; i++) {
+            as_alone(plans, 1, pixels, most[i]);
+            as_alone(plans, 3, pixels, most[i]);
+            as_alone(plans, JONQUILSAW_GROUP_LIMIT, pixels, most[i]);
+        }
+        /* a picture's lanes and a plane's layout are not what their words say */
+        if (kind == JONQUILSAW_PICTURE) plans[10] = 9, plans[21] = 0;
+        else plans[2] = 1, plans[13] = 2;
+        as_alone(plans, 3, pixels, 4);
+    }
+    give_back(pixels, 4 * 13 * 17);
+    give_back(plans, 4 * JONQUILSAW_PLAN_WORDS * JONQUILSAW_GROUP_LIMIT);
+}
+
+/* Two jobs over a plane of three lanes, 5 by 4: its crop 3 by 2 at (1, 2) to 2 by 7, and all of it to 4 by 1; 12 and 24 work values. The places of the wrong
+ * arguments are 11 words of each plan, then how many words of plans, how many jobs, how many work values and how many words of record. */
+static uint32_t *group_plans, *group_work, *group_record;
+enum { PLANS_LENT = 22, JOBS, WORK_LENT, RECORD_LENT, GROUP_ARGUMENTS };
+
+static uint32_t call_start_group(const uint64_t *a) {
+    /* every plan behind the two is the second one */
+    for (uint32_t i = 0; i < 11 * (JONQUILSAW_GROUP_LIMIT + 1); i++) group_plans[i] = (uint32_t)a[i < 22 ? i : 11 + i % 11];
+    return jonquilsaw_start_group(group_plans, a[PLANS_LENT], (uint32_t)a[JOBS], group_work, a[WORK_LENT], group_record, a[RECORD_LENT]);
+}
+
+static const uint64_t group_right[GROUP_ARGUMENTS] = {5, 4, 0, 1, 2, 3, 2, 2, 7, 1, 3, 5, 4, 0, 0, 0, 5, 4, 4, 1, 1, 3, 22, 2, 40, 30};
+
+static int start_group_kept(void) { return words_all(group_work, 40, 5) && words_all(group_record, 30, 6); }
+
+static void starts_of_groups(void) {
+    const uint64_t past = 16385, most = 4294967295u;
+    const wrong all_wrong[] = {
+        {PLANS_LENT, 21, 100}, {PLANS_LENT, 0, 100}, {RECORD_LENT, 28, 100}, {RECORD_LENT, 0, 100}, {2, 3, 100}, {2, most, 100}, {13, 3, 100}, {9, 2, 100}, {20, 2, 100}, {20, most, 100},
+        {0, 0, 1}, {12, past, 1}, {5, 0, 1}, {17, 0, 1}, {7, 0, 1}, {18, past, 1}, {8, most, 1}, {19, 0, 1},
+        {10, 0, 10}, {10, 5, 10}, {21, 5, 10}, {21, most, 10},
+        {3, most, 2}, {4, most, 2}, {14, 1, 2}, {15, 2, 2},
+        {0, 6, 13}, {12, 5, 13}, {21, 2, 13}, {10, 4, 13}, {20, 0, 13}, {JOBS, 0, 13},
+        {WORK_LENT, 35, 5}, {WORK_LENT, 0, 5}};
+    const uint32_t order[] = {100, 1, 10, 2, 13, 14, 5};
+    const uint32_t fresh[29] = {2, 5, 4, 0, 1, 2, 3, 2, 2, 7, 0, 0, 0, JONQUILSAW_PLANE, 3, 5, 4, 0, 0, 0, 5, 4, 4, 1, 0, 0, 0, JONQUILSAW_PLANE, 3};
+    group_plans = words_of(11 * (JONQUILSAW_GROUP_LIMIT + 1), 0);
+    group_work = words_of(40, 5);
+    group_record = words_of(30, 6);
+    /* as every_two, but that a start of no jobs looks at no plan, and a picture's lanes are not looked at */
+    for (size_t i = 0; i < sizeof all_wrong / sizeof *all_wrong; i++) {
+        for (size_t k = 0; k <= i; k++) {
+            const wrong a = all_wrong[i], b = all_wrong[k];
+            if ((k != i && a.place == b.place) || (a.place == 20 && a.value == 0 && b.place == 21)) continue;
+            uint64_t given[GROUP_ARGUMENTS];
+            memcpy(given, group_right, sizeof given);
+            given[a.place] = a.value;
+            given[b.place] = b.value;
+            uint32_t none = a.place == JOBS || b.place == JOBS, want = 0;
+            if (none) want = (a.place == RECORD_LENT && a.value == 0) || (b.place == RECORD_LENT && b.value == 0) ? 100 : 13;
+            else {
+                const uint32_t *first = order;
+                while (*first != a.number && *first != b.number) first++;
+                want = *first;
+            }
+            EXPECT(call_start_group(given) == want);
+            EXPECT(start_group_kept());
+        }
+    }
+    EXPECT(call_start_group(group_right) == 0);
+    EXPECT(memcmp(group_record, fresh, sizeof fresh) == 0 && group_record[29] == 6);
+    EXPECT(words_all(group_work, 36, 0) && words_all(group_work + 36, 4, 5));
+
+    /* exactly the words and values that are needed */
+    uint64_t exact[GROUP_ARGUMENTS];
+    memcpy(exact, group_right, sizeof exact);
+    exact[WORK_LENT] = 36;
+    exact[RECORD_LENT] = 29;
+    EXPECT(call_start_group(exact) == 0);
+    give_back(group_work, 160);
+    give_back(group_record, 120);
+
+    /* as many jobs as a group holds, and one more: the numbers ahead of 14 look at the first so many only */
+    const uint32_t limit = JONQUILSAW_GROUP_LIMIT, over = limit + 1;
+    const size_t need = 12 + 24 * (size_t)(limit - 1), words = JONQUILSAW_GROUP_WORDS(limit);
+    group_work = words_of(need + 1, 5);
+    group_record = words_of(words + 1, 6);
+    uint32_t *plans = group_plans;
+    EXPECT(jonquilsaw_start_group(plans, 11 * over, over, group_work, need + 1, group_record, words + 1) == JONQUILSAW_GROUP_TOO_LARGE);
+    EXPECT(jonquilsaw_start_group(plans, 11 * limit, over, group_work, 0, group_record, words) == JONQUILSAW_GROUP_TOO_LARGE);
+    EXPECT(jonquilsaw_start_group(plans, 11 * limit, 4294967295u, group_work, 0, group_record, words) == JONQUILSAW_GROUP_TOO_LARGE);
+    EXPECT(jonquilsaw_start_group(plans, 11 * limit - 1, over, group_work, 0, group_record, words) == JONQUILSAW_BOUNDARY);
+    EXPECT(jonquilsaw_start_group(plans, 11 * limit, over, group_work, 0, group_record, words - 1) == JONQUILSAW_BOUNDARY);
+    plans[11 * limit + 7] = 0;
+    EXPECT(jonquilsaw_start_group(plans, 11 * over, over, group_work, 0, group_record, words) == JONQUILSAW_GROUP_TOO_LARGE);
+    plans[11 * limit + 2] = 3;
+    EXPECT(jonquilsaw_start_group(plans, 11 * over, over, group_work, 0, group_record, words) == JONQUILSAW_GROUP_TOO_LARGE);
+    plans[11 * (limit - 1) + 10] = 2;
+    EXPECT(jonquilsaw_start_group(plans, 11 * over, over, group_work, 0, group_record, words) == JONQUILSAW_INVALID_GROUP);
+    plans[11 * (limit - 1) + 7] = 0;
+    EXPECT(jonquilsaw_start_group(plans, 11 * over, over, group_work, 0, group_record, words) == JONQUILSAW_INVALID_DIMENSIONS);
+    plans[11 * (limit - 1) + 7] = 4;
+    plans[11 * (limit - 1) + 10] = 3;
+    EXPECT(words_all(group_work, need + 1, 5) && words_all(group_record, words + 1, 6));
+    EXPECT(jonquilsaw_start_group(plans, 11 * limit, limit, group_work, need - 1, group_record, words) == JONQUILSAW_WORK_LENGTH);
+    EXPECT(words_all(group_work, need + 1, 5) && words_all(group_record, words + 1, 6));
+    EXPECT(jonquilsaw_start_group(plans, 11 * limit, limit, group_work, need, group_record, words) == 0);
+    EXPECT(words_all(group_work, need, 0) && group_work[need] == 5 && group_record[0] == limit && group_record[words] == 6);
+    /* no jobs: no words of plans, and one of record */
+    EXPECT(jonquilsaw_start_group(NULL, 0, 0, NULL, 0, NULL, 0) == JONQUILSAW_BOUNDARY);
+    EXPECT(jonquilsaw_start_group(NULL, 0, 0, NULL, 0, group_record, 1) == JONQUILSAW_INVALID_GROUP && group_record[0] == limit);
+    give_back(group_work, 4 * (need + 1));
+    give_back(group_record, 4 * (words + 1));
+    give_back(group_plans, 44 * over);
+}
+
+/* The refusals of a group's offer and take in their order, and what they move on, of a 2 by 6 picture of bytes 100 to 1 by 4 and to 2 by 3: 8 and 16 work values. */
+static void groups_refused(void) {
+    const jonquilsaw_rect whole = {0, 0, 2, 6};
+    uint32_t plans[22];
+    uint8_t *rows = bytes_of(48, 100), *out = bytes_of(8, 9), *kept_rows = bytes_of(48, 100);
+    uint32_t *work = words_of(26, 3), *record = words_of(30, 4), *accepted = words_of(2, 8), *kept_work = words_of(26, 0), *kept_record = words_of(30, 0);
+    plan_of(plans, 2, 6, JONQUILSAW_BGRA8, whole, 1, 4, JONQUILSAW_PICTURE, 4);
+    plan_of(plans + 11, 2, 6, JONQUILSAW_BGRA8, whole, 2, 3, JONQUILSAW_PICTURE, 4);
+    EXPECT(jonquilsaw_start_group(plans, 22, 2, work, 26, record, 30) == 0 && words_all(work, 24, 0) && words_all(work + 24, 2, 3));
+    memcpy(kept_work, work, 104);
+    memcpy(kept_record, record, 120);
+#define KEPT (memcmp(work, kept_work, 104) == 0 && memcmp(record, kept_record, 120) == 0 && words_all(accepted, 2, 8) && all(out, 8, 9) && memcmp(rows, kept_rows, 48) == 0)
+    EXPECT(jonquilsaw_offer_group(record, 28, rows, 0, work, 0, accepted, 0) == JONQUILSAW_BOUNDARY && KEPT);
+    EXPECT(jonquilsaw_offer_group(NULL, 0, NULL, 0, NULL, 0, NULL, 0) == JONQUILSAW_BOUNDARY);
+    /* too few words: none, the count alone, one job, all but the last */
+    for (size_t n = 0; n < 29; n += n == 1 ? 13 : n == 15 ? 13 : 1) {
+        EXPECT(jonquilsaw_offer_group(record, n, rows, 0, work, 0, accepted, 1) == JONQUILSAW_INVALID_RECORD && KEPT);
+        EXPECT(jonquilsaw_take_group(record, n, 9, out, 0, work, 0) == JONQUILSAW_INVALID_RECORD && KEPT);
+    }
+    /* words that make no group: the count, then of either job the layout, the kind, the flag; and those that no group has: a flag before the first row, a row taken too soon,
+     * rows accepted of one job alone, a crop, another source, layout or kind, other lanes */
+    const struct {
+        int place;
+        uint32_t word;
+    } all_wrong[] = {{0, 0}, {0, 3}, {0, JONQUILSAW_GROUP_LIMIT + 1}, {0, 4294967295u}, {3, 3}, {17, 4294967295u}, {13, 2}, {27, 2}, {12, 2}, {26, 2}, {12, 1}, {26, 1}, {11, 1}, {25, 1}, {10, 1}, {24, 1}, {24, 7}, {6, 0}, {20, 3}, {1, 3}, {16, 7}, {17, 0}, {27, 1}, {14, 3}, {28, 5}};
+    for (size_t i = 0; i < sizeof all_wrong / sizeof *all_wrong; i++) {
+        const uint32_t right = record[all_wrong[i].place];
+        record[all_wrong[i].place] = kept_record[all_wrong[i].place] = all_wrong[i].word;
+        EXPECT(jonquilsaw_offer_group(record, 29, rows, 0, work, 0, accepted, 1) == JONQUILSAW_INVALID_RECORD && KEPT);
+        EXPECT(jonquilsaw_take_group(record, 29, 2, out, 0, work, 0) == JONQUILSAW_INVALID_RECORD && KEPT);
+        record[all_wrong[i].place] = kept_record[all_wrong[i].place] = right;
+    }
+    EXPECT(jonquilsaw_offer_group(record, 30, rows, 0, work, 0, accepted, 1) == JONQUILSAW_PIXEL_BUFFER_MISMATCH && KEPT);
+    EXPECT(jonquilsaw_offer_group(record, 30, rows, 12, work, 0, accepted, 1) == JONQUILSAW_PIXEL_BUFFER_MISMATCH && KEPT);
+    EXPECT(jonquilsaw_offer_group(record, 30, rows, 8, work, 23, accepted, 1) == JONQUILSAW_WORK_LENGTH && KEPT);
+    /* a job that the group lacks, ahead of the output's length and the work values; the first job has its own part of the values, yet all are asked for */
+    EXPECT(jonquilsaw_take_group(record, 30, 2, out, 3, work, 0) == JONQUILSAW_INVALID_GROUP && KEPT);
+    EXPECT(jonquilsaw_take_group(record, 30, 4294967295u, out, 3, work, 0) == JONQUILSAW_INVALID_GROUP && KEPT);
+    EXPECT(jonquilsaw_take_group(record, 30, 0, out, 8, work, 0) == JONQUILSAW_OUTPUT_LENGTH && KEPT);
+    EXPECT(jonquilsaw_take_group(record, 30, 1, out, 4, work, 0) == JONQUILSAW_OUTPUT_LENGTH && KEPT);
+    EXPECT(jonquilsaw_take_group(record, 30, 0, out, 4, work, 23) == JONQUILSAW_WORK_LENGTH && KEPT);
+    EXPECT(jonquilsaw_take_group(record, 30, 1, out, 8, work, 23) == JONQUILSAW_WORK_LENGTH && KEPT);
+    EXPECT(jonquilsaw_take_group(record, 30, 0, out, 4, work, 24) == JONQUILSAW_NONE_READY && KEPT);
+    EXPECT(jonquilsaw_take_group(record, 30, 1, out, 8, work, 24) == JONQUILSAW_NONE_READY && KEPT);
+    /* all six rows lent: the second makes a row of both jobs ready */
+    EXPECT(jonquilsaw_offer_group(record, 30, rows, 48, work, 26, accepted, 2) == 0);
+    EXPECT(accepted[0] == 2 && accepted[1] == 8 && record[0] == 2 && record[10] == 2 && record[24] == 2 && record[29] == 4 && words_all(work + 24, 2, 3));
+    accepted[0] = 8;
+    for (uint32_t job = 0; job < 2; job++) {
+        memcpy(kept_work, work, 104);
+        memcpy(kept_record, record, 120);
+        EXPECT(jonquilsaw_offer_group(record, 30, rows, 8, work, 23, accepted, 1) == JONQUILSAW_WORK_LENGTH && KEPT);
+        EXPECT(jonquilsaw_offer_group(record, 30, rows, 8, work, 26, accepted, 1) == JONQUILSAW_ROW_READY && KEPT);
+        /* the row of one job leaves the other's record and part */
+        EXPECT(jonquilsaw_take_group(record, 30, job, out, job ? 8 : 4, work, 26) == 0 && out[3] == 100 && (job || all(out + 4, 4, 9)));
+        EXPECT(record[11 + 14 * job] == 1 && record[12 + 14 * job] == 1 && record[29] == 4 && words_all(work + 24, 2, 3));
+        EXPECT(memcmp(record + (job ? 0 : 15), kept_record + (job ? 0 : 15), job ? 60 : 56) == 0);
+        EXPECT(memcmp(work + (job ? 0 : 8), kept_work + (job ? 0 : 8), job ? 32 : 64) == 0);
+        memset(out, 9, 8);
+    }
+    memcpy(kept_work, work, 104);
+    memcpy(kept_record, record, 120);
+    EXPECT(jonquilsaw_take_group(record, 30, 1, out, 8, work, 26) == JONQUILSAW_NONE_READY && KEPT);
+#undef KEPT
+    /* a record filled by hand, in the midst of a picture: what stands beyond the count says nothing, and stays */
+    uint32_t *filled = words_of(JONQUILSAW_GROUP_WORDS(3), 4294967295u);
+    memcpy(filled, record, 116);
+    EXPECT(jonquilsaw_offer_group(filled, JONQUILSAW_GROUP_WORDS(3), rows + 16, 8, work, 24, accepted, 1) == 0 && accepted[0] == 1);
+    EXPECT(filled[0] == 2 && filled[10] == 3 && filled[24] == 3 && words_all(filled + 29, 14, 4294967295u));
+    filled[0] = 3;
+    EXPECT(jonquilsaw_offer_group(filled, JONQUILSAW_GROUP_WORDS(3), rows + 24, 8, work, 24, accepted, 1) == JONQUILSAW_INVALID_RECORD);
+    /* one of its jobs is a group as well, over its own part */
+    filled[0] = 1;
+    EXPECT(jonquilsaw_take_group(filled, JONQUILSAW_GROUP_WORDS(1), 0, out, 4, work, 8) == 0 && filled[11] == 2 && filled[25] == 1);
+    EXPECT(jonquilsaw_take_group(filled, JONQUILSAW_GROUP_WORDS(1), 1, out, 4, work, 8) == JONQUILSAW_INVALID_GROUP);
+}
+
+/* The header's own functions do what those of the archive do. */
+static void groups_with_types(void) {
+    const jonquilsaw_size source = {5, 4}, targets[2] = {{2, 3}, {7, 6}};
+    const jonquilsaw_plan pictures_of[2] = {{source, JONQUILSAW_ARGB8, {1, 1, 3, 2}, targets[0]}, {source, JONQUILSAW_ARGB8, {0, 0, 5, 4}, targets[1]}};
+    const jonquilsaw_plane_plan planes_of[2] = {{source, 2, {1, 1, 3, 2}, targets[0]}, {source, 2, {0, 0, 5, 4}, targets[1]}};
+    uint8_t *bytes = bytes_of(80, 0), *out = bytes_of(28, 0);
+    uint32_t *work = words_of(72, 5), *own = words_of(56, 0), plans[22], words[29], accepted = 0;
+    for (int i = 0; i < 80; i++) bytes[i] = any_byte();
+    for (uint32_t kind = 0; kind < 2; kind++) {
+        const uint32_t lanes = kind ? 2 : 4;
+        const size_t need = 18 * lanes;
+        jonquilsaw_group group;
+        memset(&group, 9, sizeof group);
+        for (uint32_t i = 0; i < 2; i++) plan_of(plans + 11 * i, 5, 4, kind ? JONQUILSAW_RGBA8 : JONQUILSAW_ARGB8, pictures_of[i].crop, targets[i].width, targets[i].height, kind, lanes);
+        EXPECT((kind ? jonquilsaw_group_start_planes(&group, planes_of, 2, work, need - 1) : jonquilsaw_group_start(&group, pictures_of, 2, work, need - 1)) == JONQUILSAW_WORK_LENGTH);
+        EXPECT((kind ? jonquilsaw_group_start_planes(&group, planes_of, 0, work, need) : jonquilsaw_group_start(&group, pictures_of, 0, work, need)) == JONQUILSAW_INVALID_GROUP);
+        EXPECT(group.words[0] == 0x09090909u);
+        EXPECT((kind ? jonquilsaw_group_start_planes(&group, planes_of, 2, work, need) : jonquilsaw_group_start(&group, pictures_of, 2, work, need)) == JONQUILSAW_OK);
+        EXPECT(jonquilsaw_start_group(plans, 22, 2, work, need, words, 29) == 0 && memcmp(group.words, words, sizeof words) == 0 && group.words[29] == 0x09090909u);
+        EXPECT(jonquilsaw_group_count(&group) == 2);
+        jonquilsaw_job job = jonquilsaw_group_job(&group, 1);
+        EXPECT(start_alone(plans + 11, own, 14 * lanes, words, 14) == 0 && memcmp(job.words, words, 56) == 0);
+        EXPECT(jonquilsaw_group_take(&group, 1, out, lanes * 7, work, need) == JONQUILSAW_NONE_READY);
+        EXPECT(jonquilsaw_group_offer(&group, bytes, (size_t)lanes * 20, work, need, &accepted) == JONQUILSAW_OK && accepted == 1);
+        job = jonquilsaw_group_job(&group, 1);
+        EXPECT(jonquilsaw_job_accepted(&job) == 1 && jonquilsaw_job_out_bytes(&job) == lanes * 7 && jonquilsaw_job_kind(&job) == (jonquilsaw_kind)kind);
+        EXPECT(jonquilsaw_group_take(&group, 2, out, lanes * 7, work, need) == JONQUILSAW_INVALID_GROUP);
+        EXPECT(jonquilsaw_group_take(&group, 1, out, lanes * 7, work, need) == JONQUILSAW_OK);
+        job = jonquilsaw_group_job(&group, 1);
+        EXPECT(jonquilsaw_job_taken(&job) == 1);
+    }
+    /* more plans than a group holds are not read */
+    jonquilsaw_plan many[JONQUILSAW_GROUP_LIMIT];
+    jonquilsaw_group group;
+    for (uint32_t i = 0; i < JONQUILSAW_GROUP_LIMIT; i++) many[i] = pictures_of[0];
+    EXPECT(jonquilsaw_group_start(&group, many, JONQUILSAW_GROUP_LIMIT + 1, work, 72) == JONQUILSAW_GROUP_TOO_LARGE);
+    EXPECT(jonquilsaw_group_start(&group, many, 4294967295u, work, 72) == JONQUILSAW_GROUP_TOO_LARGE);
+}
+
+static void groups(void) {
+    starts_of_groups();
+    groups_refused();
+    groups_of_all_kinds();
+    groups_with_types();
+}
+
 int main(void) {
     starts();
     offers_and_takes();
@@ -1013,6 +1343,7 @@ int main(void) {
     planes();
     columns_of_pictures();
     pam();
+    groups();
     printf("c: %lu checks, %lu failed\n", checks, failures);
     return failures == 0 ? 0 : 1;
 }

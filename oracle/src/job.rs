@@ -15,6 +15,13 @@ pub const LANES: usize = 13;
 pub const PICTURE: u32 = 0;
 pub const PLANE: u32 = 1;
 
+/// The most jobs of a group, the words of a plan, and the words of the record of a group of so many jobs: their count, then the record of each.
+pub const GROUP_LIMIT: usize = 8;
+pub const PLAN_WORDS: usize = 11;
+pub fn group_words(jobs: usize) -> usize {
+    1 + size_of::<Record>() / size_of::<u32>() * jobs
+}
+
 #[derive(Clone, Copy, Debug, PartialEq)]
 pub enum Call {
     /// Bytes `from .. from + len` of the picture without end, and so many work values.
@@ -23,8 +30,8 @@ pub enum Call {
     Take { out: usize, work: usize },
     /// The record's field becomes the value.
     Set { field: usize, value: u32 },
-    /// The calls after it are those of luma, of the first or of the second chroma plane (0 to 2).
-    Plane { which: usize },
+    /// The calls after it are those of luma, of the first or of the second chroma plane (0 to 2); of a group, the takes after it name this job.
+    Which { which: usize },
 }
 
 #[derive(Clone, Copy, Debug, PartialEq)]
@@ -52,6 +59,18 @@ impl Sizes {
     }
     pub fn of(r: &Record) -> Self {
         Sizes { layout: r[LAYOUT], w: r[0], h: r[1], x: r[3], y: r[4], cw: r[5], ch: r[6], tw: r[7], th: r[8], kind: r[KIND], lanes: r[LANES] }
+    }
+    /// The plan's words.
+    pub fn plan(&self) -> [u32; PLAN_WORDS] {
+        let s = self;
+        [s.w, s.h, s.layout, s.x, s.y, s.cw, s.ch, s.tw, s.th, s.kind, s.lanes]
+    }
+    pub fn planned(p: &[u32; PLAN_WORDS]) -> Self {
+        Sizes { w: p[0], h: p[1], layout: p[2], x: p[3], y: p[4], cw: p[5], ch: p[6], tw: p[7], th: p[8], kind: p[9], lanes: p[10] }
+    }
+    /// The plan as its own start would form it: a picture has four lanes and a plane layout 0, whatever its words say.
+    pub fn formed(&self) -> Self {
+        if self.kind == PLANE { Sizes { layout: 0, ..*self } } else { Sizes { lanes: 4, ..*self } }
     }
     /// So many pixels, in bytes of a row or in values of a work row.
     pub fn row(&self, pixels: u32) -> usize {
@@ -97,6 +116,7 @@ pub enum Job {
     Scaled { w: u32, h: u32, tw: u32, th: u32 },
     Rows { sizes: Sizes, work: usize, px: Pixels, calls: Vec<Call> },
     Three { w: u32, h: u32, tw: u32, th: u32, work: [usize; 3], px: Pixels, calls: Vec<Call> },
+    Group { count: u32, plans: Vec<Sizes>, record: usize, work: usize, px: Pixels, calls: Vec<Call> },
 }
 
 fn put_calls(f: &mut fmt::Formatter, calls: &[Call]) -> fmt::Result {
@@ -105,7 +125,7 @@ fn put_calls(f: &mut fmt::Formatter, calls: &[Call]) -> fmt::Result {
             Call::Offer { from, len, work } => write!(f, " o {from} {len} {work}")?,
             Call::Take { out, work } => write!(f, " t {out} {work}")?,
             Call::Set { field, value } => write!(f, " s {field} {value}")?,
-            Call::Plane { which } => write!(f, " p {which}")?,
+            Call::Which { which } => write!(f, " p {which}")?,
         }
     }
     Ok(())
@@ -135,6 +155,13 @@ impl fmt::Display for Job {
                 write!(f, "three {w} {h} {tw} {th} {y} {cb} {cr} {} {}", px.pattern, px.seed)?;
                 put_calls(f, calls)
             }
+            Job::Group { count, plans, record, work, px, calls } => {
+                write!(f, "group {count} {} {record} {work} {} {}", plans.len(), px.pattern, px.seed)?;
+                for word in plans.iter().flat_map(Sizes::plan) {
+                    write!(f, " {word}")?;
+                }
+                put_calls(f, calls)
+            }
         }
     }
 }
@@ -148,6 +175,13 @@ impl Words<'_> {
     fn num(&mut self) -> Option<u32> {
         self.0.next()?.parse().ok()
     }
+    fn plan(&mut self) -> Option<Sizes> {
+        let mut words = [0; PLAN_WORDS];
+        for word in &mut words {
+            *word = self.num()?;
+        }
+        Some(Sizes::planned(&words))
+    }
     fn px(&mut self) -> Option<Pixels> {
         Some(Pixels { pattern: self.num()?, seed: self.num()? })
     }
@@ -159,7 +193,7 @@ impl Words<'_> {
                 "o" => Call::Offer { from: self.size()?, len: self.size()?, work: self.size()? },
                 "t" => Call::Take { out: self.size()?, work: self.size()? },
                 "s" => Call::Set { field: self.size()?, value: self.num()? },
-                "p" => Call::Plane { which: self.size()? },
+                "p" => Call::Which { which: self.size()? },
                 _ => return None,
             });
         }
@@ -213,6 +247,11 @@ impl Job {
                 let (w, h, tw, th) = (v.num()?, v.num()?, v.num()?, v.num()?);
                 return Some(Job::Three { w, h, tw, th, work: [v.size()?, v.size()?, v.size()?], px: v.px()?, calls: v.calls()? });
             }
+            "group" => {
+                let (count, plans, record, work, px) = (v.num()?, v.size()?, v.size()?, v.size()?, v.px()?);
+                let plans = (0..plans).map(|_| v.plan()).collect::<Option<_>>()?;
+                return Some(Job::Group { count, plans, record, work, px, calls: v.calls()? });
+            }
             _ => return None,
         };
         if v.0.next().is_some() { None } else { Some(job) }
@@ -229,6 +268,7 @@ impl Job {
             Job::Scaled { w, h, tw, th } => side(*w) + side(*h) + side(*tw) + side(*th),
             Job::Rows { sizes: s, calls, .. } => area(s.w, s.h) + area(s.tw, s.th) + calls.len() as u64,
             Job::Three { w, h, tw, th, calls, .. } => area(*w, *h) + area(*tw, *th) + calls.len() as u64,
+            Job::Group { plans, calls, .. } => plans.iter().map(|s| area(s.w, s.h) + area(s.tw, s.th)).sum::<u64>() + calls.len() as u64,
         }
     }
 

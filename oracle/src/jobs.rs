@@ -1,7 +1,7 @@
 //! Makes jobs: exhaustively for small sides, at random around every boundary. The same seed makes the same jobs.
 use crate::job::{Call, FLAG, Job, K, KIND, LANES, LAYOUT, PLANE, Pixels, Record, Sizes, T, planes};
 use crate::picture::PATTERNS;
-use crate::table;
+use crate::{groups, table};
 
 /// splitmix64.
 pub struct Random(pub u64);
@@ -27,13 +27,13 @@ impl Random {
     pub fn of<V: Copy>(&mut self, values: &[V]) -> V {
         values[self.below(values.len() as u32) as usize]
     }
-    fn pixels(&mut self) -> Pixels {
+    pub fn pixels(&mut self) -> Pixels {
         Pixels { pattern: self.below(PATTERNS), seed: self.next() as u32 }
     }
 }
 
-/// The sets of jobs, and how many of each a gate's run and a long run have; of pictures, then of planes.
-pub const SETS: [(&str, u64, u64); 25] = [
+/// The sets of jobs, and how many of each a gate's run and a long run have; of pictures, of planes, then of groups.
+pub const SETS: [(&str, u64, u64); 27] = [
     ("small", 12288, 80 * 12288),
     ("small-rows", 12288, 80 * 12288),
     ("edges", 3000, 60_000),
@@ -59,6 +59,8 @@ pub const SETS: [(&str, u64, u64); 25] = [
     ("lanes-wraps", 10, 100),
     ("lanes-strips", 8, 40),
     ("lanes-dividers", DIVIDERS + 1200, DIVIDERS + 100_000),
+    ("groups", 2000, 100_000),
+    ("groups-calls", 2400, 100_000),
 ];
 
 /// The sets of planes.
@@ -118,11 +120,13 @@ pub fn make(set: &str, i: u64, r: &mut Random) -> Job {
             rows_of(&plane_of(sizes, 1 + (i % 4) as u32), px, 0, r)
         }
         "lanes-dividers" => plane_dividers(i, r),
+        "groups" => groups::right(r),
+        "groups-calls" => groups::wrong(i, r),
         _ => panic!("no set {set}"),
     }
 }
 
-fn full(layout: u32, w: u32, h: u32, tw: u32, th: u32) -> Sizes {
+pub fn full(layout: u32, w: u32, h: u32, tw: u32, th: u32) -> Sizes {
     Sizes { layout, w, h, cw: w, ch: h, tw, th, ..Sizes::PICTURE }
 }
 
@@ -130,7 +134,7 @@ fn plane_of(s: Sizes, lanes: u32) -> Sizes {
     Sizes { layout: 0, kind: PLANE, lanes, ..s }
 }
 
-fn any_plane(s: Sizes, r: &mut Random) -> Sizes {
+pub fn any_plane(s: Sizes, r: &mut Random) -> Sizes {
     plane_of(s, r.within(1, 4))
 }
 
@@ -168,7 +172,7 @@ fn small_plane(i: u64) -> Sizes {
 
 const SIDES: [u32; 8] = [1, 2, 3, 255, 256, 257, 16383, 16384];
 
-fn side(r: &mut Random) -> u32 {
+pub fn side(r: &mut Random) -> u32 {
     if r.one_in(2) { r.of(&SIDES) } else { r.within(1, 40) }
 }
 
@@ -205,7 +209,7 @@ fn edges(r: &mut Random, uncropped: bool) -> Sizes {
 }
 
 /// A crop that touches any of the four edges, or none.
-fn crop_at_edge(s: &mut Sizes, r: &mut Random) {
+pub fn crop_at_edge(s: &mut Sizes, r: &mut Random) {
     let mut axis = |side: u32| -> (u32, u32) {
         let len = if r.one_in(3) { side } else { r.within(1, side) };
         let at = match r.below(3) {
@@ -747,7 +751,7 @@ fn three_of([w, h, tw, th]: [u32; 4], work: [usize; 3], r: &mut Random) -> Job {
         while each.iter_mut().any(|list| list.peek().is_some()) {
             let next = r.below(3) as usize;
             if next != at {
-                calls.push(Call::Plane { which: next });
+                calls.push(Call::Which { which: next });
                 at = next;
             }
             calls.extend(each[at].by_ref().take(r.of(&[1, 3, 50])));

@@ -40,7 +40,7 @@ impl Side {
     }
     /// Whether it is sent jobs of this kind.
     fn takes(self, job: &Job) -> bool {
-        self == Side::Ours || (self == Side::Rescaler) == job.of_planes()
+        self == Side::Ours || !matches!(job, Job::Group { .. }) && (self == Side::Rescaler) == job.of_planes()
     }
 }
 
@@ -247,8 +247,8 @@ pub fn run(sets: &[(&str, u64)], seed: u64, commands: Commands) -> bool {
     agree
 }
 
-/// The numbers that calls are counted by: 0 to 10.
-const NUMBERS: usize = 11;
+/// The numbers that calls are counted by: 0 to 14.
+const NUMBERS: usize = 15;
 
 /// Counts the number of each call that an answer holds.
 fn tally(job: &Job, answer: &str, numbers: &mut [u64; NUMBERS]) {
@@ -259,6 +259,7 @@ fn tally(job: &Job, answer: &str, numbers: &mut [u64; NUMBERS]) {
     let start = match job {
         Job::Rows { .. } => 2,
         Job::Three { .. } if words[0] == "0" => 7,
+        Job::Group { .. } => 3,
         _ => return,
     };
     words[start..words.len() - 1].chunks(4).for_each(|call| add(call[0]));

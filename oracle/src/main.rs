@@ -6,6 +6,7 @@
 //!   oracle list                           the fixed list
 mod divider;
 mod error;
+mod groups;
 mod job;
 mod jobs;
 mod judge;

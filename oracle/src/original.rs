@@ -10,7 +10,7 @@
 use crate::divider::{self, Corner};
 use crate::geometry::Rect;
 use crate::image::{Dimensions, Image, PixelLayout, argb_has_alpha, pack_pixels, unpack_pixels};
-use crate::job::{Call, FLAG, Job, K, PLANE, Pixels, Record, Sizes, T, planes};
+use crate::job::{Call, FLAG, GROUP_LIMIT, Job, K, PLANE, Pixels, Record, Sizes, T, group_words, planes};
 use crate::picture::{bytes, fill_bytes, fill_words, fnv_words, hex, plane};
 use crate::probe::open::{Scaler, alpha_scale, mult_argb, rescale_plane};
 use crate::{error, table};
@@ -160,6 +160,13 @@ pub fn answer(job: &Job) -> Told {
             three.rows.iter().for_each(|r| corner.add(r.corner));
             Told { line, libwebp: three.rows.map(|r| r.whole).join(" "), corner }
         }
+        Job::Group { count, plans, record, work, px, calls } => {
+            let mut group = Group::new(*count, plans, *record, *work, px);
+            let line = group.run(calls).unwrap_or_else(|e| e);
+            let mut corner = Corner::NONE;
+            group.jobs.iter().for_each(|r| corner.add(r.corner));
+            Told { line, libwebp: String::new(), corner }
+        }
         Job::Resize { layout, w, h, tw, th, pixels, out, work, px } => {
             let s = Sizes { layout: *layout, w: *w, h: *h, cw: *w, ch: *h, tw: *tw, th: *th, ..Sizes::PICTURE };
             resize(&s, *pixels, *out, *work, px)
@@ -210,7 +217,7 @@ fn whole_answer(job: &Job) -> String {
             Ok(d) => format!("0 {} {}", d.width(), d.height()),
             Err(e) => format!("{} 0 0", e as u32),
         },
-        Job::Resize { .. } | Job::Rows { .. } | Job::Three { .. } => unreachable!(),
+        Job::Resize { .. } | Job::Rows { .. } | Job::Three { .. } | Job::Group { .. } => unreachable!(),
     }
 }
 
@@ -343,8 +350,9 @@ struct Rows {
 }
 
 impl Rows {
-    fn new(s: &Sizes, work: usize, px: &Pixels, started: u32) -> Self {
-        let mut rows = Rows {
+    /// Without a source.
+    fn empty(s: &Sizes, work: usize, started: u32) -> Self {
+        Rows {
             record: s.record(),
             work: fill_words(work),
             started,
@@ -355,7 +363,11 @@ impl Rows {
             whole: String::new(),
             wrong: None,
             corner: Corner::NONE,
-        };
+        }
+    }
+
+    fn new(s: &Sizes, work: usize, px: &Pixels, started: u32) -> Self {
+        let mut rows = Rows::empty(s, work, started);
         let sizes = table::sizes(s, true);
         if sizes != 0 {
             rows.wrong = sizes_asked(s).filter(|&n| n != sizes).map(|n| format!("! the table says {sizes}, the original {n}"));
@@ -416,7 +428,7 @@ impl Rows {
             }
             Call::Offer { from, len, work } => self.offer(from, len, work)?,
             Call::Take { out, work } => self.take(out, work)?,
-            Call::Plane { .. } => return Err("! no call of one job".into()),
+            Call::Which { .. } => return Err("! no call of one job".into()),
         };
         Ok(format!(" {said} {} {:016x}", record_line(&self.record), fnv_words(&self.work)))
     }
@@ -529,7 +541,7 @@ impl Rows {
     }
 }
 
-fn record_line(record: &Record) -> String {
+fn record_line(record: &[u32]) -> String {
     record.iter().map(u32::to_string).collect::<Vec<_>>().join(",")
 }
 
@@ -552,12 +564,166 @@ impl Three {
             let mut at = 0;
             for &call in calls {
                 match call {
-                    Call::Plane { which } => at = which,
+                    Call::Which { which } => at = which,
                     _ => line += &self.rows[at].call(call)?,
                 }
             }
         }
         Ok(line + " 1")
+    }
+}
+
+/// A group of jobs. Each is a job of its own, over its part of the work values, and is offered row after row until one of them has a row ready.
+struct Group {
+    started: u32,
+    /// All words and values lent.
+    record: Vec<u32>,
+    work: Vec<u32>,
+    jobs: Vec<Rows>,
+    /// The record as the source's own rows made it, if they alone did.
+    natural: Option<Vec<u32>>,
+    /// The job that takes name.
+    named: usize,
+    wrong: Option<String>,
+}
+
+impl Group {
+    fn new(count: u32, plans: &[Sizes], record: usize, work: usize, px: &Pixels) -> Self {
+        let looked = GROUP_LIMIT.min(count as usize);
+        let plans: Vec<Sizes> = plans.iter().take(looked).map(Sizes::formed).collect();
+        let started = table::group_start(&plans, count, work);
+        // A plan that its group does not start is still asked for its sizes.
+        let jobs: Vec<Rows> = plans.iter().map(|s| Rows::new(s, if started == 0 { s.need() } else { 0 }, px, started)).collect();
+        let wrong = (plans.len() < looked || record < group_words(looked)).then(|| "! fewer plans or words than the count asks for".to_owned());
+        let wrong = wrong.or(jobs.iter().find_map(|rows| rows.wrong.clone()));
+        Group { started, record: fill_words(record), work: fill_words(work), jobs, natural: None, named: 0, wrong }
+    }
+
+    /// Where the part of each job starts, and at last where the last one ends.
+    fn parts(&self) -> Vec<usize> {
+        let ends = self.jobs[..self.count()].iter().scan(0, |at, rows| {
+            *at += Sizes::of(&rows.record).need();
+            Some(*at)
+        });
+        std::iter::once(0).chain(ends).collect()
+    }
+
+    fn count(&self) -> usize {
+        self.record[0] as usize
+    }
+
+    /// Hands each job its record and its part.
+    fn load(&mut self) {
+        let natural = self.natural.as_ref() == Some(&self.record);
+        let records = table::group_records(&self.record).unwrap();
+        while self.jobs.len() < records.len() {
+            // One that the caller put there.
+            self.jobs.push(Rows { source: self.jobs[0].source.clone(), ..Rows::empty(&Sizes::of(&records[0]), 0, 0) });
+        }
+        for (rows, record) in self.jobs.iter_mut().zip(&records) {
+            rows.record = *record;
+            rows.natural = natural.then_some(*record);
+        }
+        let parts = self.parts();
+        for (rows, part) in self.jobs.iter_mut().zip(parts.windows(2)) {
+            rows.work = self.work[part[0]..part[1]].to_vec();
+        }
+    }
+
+    /// Puts together what the jobs have.
+    fn store(&mut self) {
+        let (count, parts) = (self.count(), self.parts());
+        for (i, rows) in self.jobs[..count].iter().enumerate() {
+            self.record[group_words(i)..group_words(i + 1)].copy_from_slice(&rows.record);
+            self.work[parts[i]..parts[i + 1]].copy_from_slice(&rows.work);
+        }
+        let natural = self.jobs[..count].iter().all(|rows| rows.natural == Some(rows.record));
+        self.natural = natural.then(|| self.record.clone());
+    }
+
+    fn start(&mut self) -> Answer {
+        if let Some(wrong) = self.wrong.take() {
+            return Err(wrong);
+        }
+        if self.started == 0 {
+            self.record[0] = self.jobs.len() as u32;
+            for rows in &mut self.jobs {
+                rows.start()?;
+            }
+            self.store();
+        }
+        Ok(self.line(&self.started.to_string()))
+    }
+
+    fn line(&self, said: &str) -> String {
+        format!("{said} {} {:016x}", record_line(&self.record), fnv_words(&self.work))
+    }
+
+    fn run(&mut self, calls: &[Call]) -> Answer {
+        let mut line = self.start()?;
+        if self.started == 0 {
+            for &call in calls {
+                let said = match call {
+                    Call::Set { field, value } => {
+                        self.record[field] = value;
+                        continue;
+                    }
+                    Call::Which { which } => {
+                        self.named = which;
+                        continue;
+                    }
+                    Call::Offer { from, len, work } => self.offer(from, len, work)?,
+                    Call::Take { out, work } => self.take(out, work)?,
+                };
+                line = line + " " + &self.line(&said);
+            }
+        }
+        Ok(line + " 1")
+    }
+
+    fn offer(&mut self, from: usize, len: usize, work: usize) -> Answer {
+        let number = table::group_offer(&self.record, len, work);
+        let mut count = 0;
+        if number == 0 {
+            self.load();
+            let jobs = self.count();
+            let s = Sizes::of(&self.jobs[0].record);
+            let row = s.row(s.w);
+            for at in (from..from + len).step_by(row) {
+                for rows in &mut self.jobs[..jobs] {
+                    let need = rows.work.len();
+                    if rows.offer(at, row, need)? != "0 1" {
+                        return Err("! a job alone does not accept the row that its group accepts".into());
+                    }
+                }
+                count += 1;
+                // Each job has held this against the original's counters.
+                let records: Vec<Record> = self.jobs[..jobs].iter().map(|rows| rows.record).collect();
+                if table::some_ready(&records) || records[0][K] == s.h {
+                    break;
+                }
+            }
+            self.store();
+        }
+        Ok(format!("{number} {count}"))
+    }
+
+    fn take(&mut self, out: usize, work: usize) -> Answer {
+        let number = table::group_take(&self.record, self.named, out, work);
+        let mut said = format!("{number} ");
+        if number == 0 {
+            self.load();
+            let rows = &mut self.jobs[self.named];
+            let need = rows.work.len();
+            said = rows.take(out, need)?;
+            if !said.starts_with("0 ") {
+                return Err("! a job alone does not hand out the row that its group hands out".into());
+            }
+            self.store();
+        } else {
+            hex(&mut said, &fill_bytes(out));
+        }
+        Ok(said)
     }
 }
 

@@ -1,7 +1,7 @@
 //! SCOPE's "Why a call is turned away" and "The job": which number a call gets, and how many rows are ready.
 //! The original cannot express most of these calls (its pictures always have whole buffers, and it has no record),
 //! so this table judges them; where it can, original.rs holds the table against it.
-use crate::job::{FLAG, K, LAYOUT, PICTURE, PLANE, Record, Sizes, T, planes};
+use crate::job::{FLAG, GROUP_LIMIT, K, LAYOUT, PICTURE, PLANE, Record, Sizes, T, group_words, planes};
 
 pub const MAX_SIDE: u32 = 16384;
 
@@ -62,10 +62,13 @@ pub fn plane(w: u32, h: u32, pixels: usize, plane: usize) -> u32 {
     }
 }
 
+fn bad_lanes(s: &Sizes) -> bool {
+    s.kind == PLANE && !(1..=4).contains(&s.lanes)
+}
+
 /// Order 1, 2, 5; of a plane 1, 10, 2, 5.
 pub fn start(s: &Sizes, work: usize) -> u32 {
-    let lanes = s.kind == PLANE && !(1..=4).contains(&s.lanes);
-    first(&[(bad_sides(s, true), 1), (lanes, 10), (crop_beyond(s), 2), (work < s.need(), 5)])
+    first(&[(bad_sides(s, true), 1), (bad_lanes(s), 10), (crop_beyond(s), 2), (work < s.need(), 5)])
 }
 
 /// Order 1, 5, each over all three planes before the next.
@@ -109,13 +112,17 @@ pub fn record_ok(r: &Record) -> bool {
     least <= r[T] && r[T] <= most && !(r[FLAG] == 1 && r[T] == 0)
 }
 
+fn ready(r: &Record) -> bool {
+    made(&Sizes::of(r), r[K]) > r[T]
+}
+
 /// Order 6, 3, 5, 7, 8.
 pub fn offer(r: &Record, len: usize, work: usize) -> u32 {
     if !record_ok(r) {
         return 6;
     }
     let s = Sizes::of(r);
-    first(&[(len == 0 || len % s.row(s.w) != 0, 3), (work < s.need(), 5), (made(&s, r[K]) > r[T], 7), (r[K] == s.h, 8)])
+    first(&[(len == 0 || len % s.row(s.w) != 0, 3), (work < s.need(), 5), (ready(r), 7), (r[K] == s.h, 8)])
 }
 
 /// Order 6, 4, 5, 9.
@@ -124,7 +131,69 @@ pub fn take(r: &Record, out: usize, work: usize) -> u32 {
         return 6;
     }
     let s = Sizes::of(r);
-    first(&[(out != s.row(s.tw), 4), (work < s.need(), 5), (made(&s, r[K]) == r[T], 9)])
+    first(&[(out != s.row(s.tw), 4), (work < s.need(), 5), (!ready(r), 9)])
+}
+
+// ---- groups: each number over all jobs before the next
+
+/// No jobs, or jobs whose source sizes, layouts, kinds or lane counts differ.
+fn differing(jobs: &[Sizes]) -> bool {
+    let source = |s: &Sizes| (s.w, s.h, s.layout, s.kind, s.lanes);
+    jobs.first().is_none_or(|one| jobs.iter().any(|s| source(s) != source(one)))
+}
+
+/// The work values that these jobs take together: where the part of the next would start.
+pub fn total(jobs: &[Sizes]) -> usize {
+    jobs.iter().map(Sizes::need).fold(0, usize::saturating_add)
+}
+
+/// Order 1, 10, 2, 13, 14, 5, of the jobs that are looked at, as they are formed.
+pub fn group_start(jobs: &[Sizes], count: u32, work: usize) -> u32 {
+    let some = |bad: &dyn Fn(&Sizes) -> bool| jobs.iter().any(bad);
+    first(&[
+        (some(&|s| bad_sides(s, true)), 1),
+        (some(&bad_lanes), 10),
+        (some(&crop_beyond), 2),
+        (differing(jobs), 13),
+        (count as usize > GROUP_LIMIT, 14),
+        (work < total(jobs), 5),
+    ])
+}
+
+/// The jobs' records in the words of a group's, where it keeps the rules.
+pub fn group_records(words: &[u32]) -> Option<Vec<Record>> {
+    let count = words[0] as usize;
+    if count > GROUP_LIMIT || words.len() < group_words(count) {
+        return None;
+    }
+    let records: Vec<Record> = words[1..group_words(count)].as_chunks().0.to_vec();
+    let jobs: Vec<Sizes> = records.iter().map(Sizes::of).collect();
+    let ok = !differing(&jobs) && records.iter().all(|r| record_ok(r) && r[K] == records[0][K]);
+    ok.then_some(records)
+}
+
+/// Some job has a row ready.
+pub fn some_ready(records: &[Record]) -> bool {
+    records.iter().any(ready)
+}
+
+fn group_need(records: &[Record]) -> usize {
+    total(&records.iter().map(Sizes::of).collect::<Vec<_>>())
+}
+
+/// Order 6, 3, 5, 7, 8.
+pub fn group_offer(words: &[u32], len: usize, work: usize) -> u32 {
+    let Some(records) = group_records(words) else { return 6 };
+    let (s, k) = (Sizes::of(&records[0]), records[0][K]);
+    first(&[(len == 0 || len % s.row(s.w) != 0, 3), (work < group_need(&records), 5), (some_ready(&records), 7), (k == s.h, 8)])
+}
+
+/// Order 6, 13, 4, 5, 9.
+pub fn group_take(words: &[u32], job: usize, out: usize, work: usize) -> u32 {
+    let Some(records) = group_records(words) else { return 6 };
+    let Some(r) = records.get(job) else { return 13 };
+    let s = Sizes::of(r);
+    first(&[(out != s.row(s.tw), 4), (work < group_need(&records), 5), (!ready(r), 9)])
 }
 
 /// "A row goes out" by its formulas, with request 4: the lanes, and whether a value reaches 2^31. The original casts values to i32 before it cuts

@@ -2,11 +2,19 @@
 //!
 //! Each function takes slices and hands the library a pointer and a count for each, so the library's one demand holds by Rust's own rules: live memory for so many
 //! elements, aligned, and shared with no other slice of the call that is written. The library touches nothing else, keeps no pointer and never
-//! unwinds; that is proved of it. The counts of 14 words and of one, two or four answer words are fixed here by array types.
+//! unwinds; that is proved of it. The counts of 14 words, of a group's words and of one, two or four answer words are fixed here by array types.
 #![allow(unsafe_code)]
+
+use crate::group::GROUP_LIMIT;
 
 /// The words of a job's record.
 pub type Record = [u32; 14];
+
+/// The words of a group's record, the longest: how many jobs, then those of each job's record.
+pub type GroupRecord = [u32; 1 + 14 * GROUP_LIMIT];
+
+/// The words of a plan: those of a record without rows accepted, rows taken and the flag.
+pub type PlanWords = [u32; 11];
 
 mod raw {
     // Raw pointers and counts, never slices: a slice in an extern declaration is not passed as the library takes it, and the call crashes.
@@ -70,6 +78,34 @@ mod raw {
             count_count: usize,
         ) -> u32;
         pub fn jonquilsaw_take(record: *mut u32, record_count: usize, out: *mut u8, out_count: usize, work: *mut u32, work_count: usize) -> u32;
+        pub fn jonquilsaw_start_group(
+            plans: *const u32,
+            plans_count: usize,
+            count: u32,
+            work: *mut u32,
+            work_count: usize,
+            record: *mut u32,
+            record_count: usize,
+        ) -> u32;
+        pub fn jonquilsaw_offer_group(
+            record: *mut u32,
+            record_count: usize,
+            rows: *const u8,
+            rows_count: usize,
+            work: *mut u32,
+            work_count: usize,
+            accepted: *mut u32,
+            accepted_count: usize,
+        ) -> u32;
+        pub fn jonquilsaw_take_group(
+            record: *mut u32,
+            record_count: usize,
+            job: u32,
+            out: *mut u8,
+            out_count: usize,
+            work: *mut u32,
+            work_count: usize,
+        ) -> u32;
         pub fn jonquilsaw_crop(
             source_width: u32,
             source_height: u32,
@@ -233,6 +269,42 @@ pub fn offer(record: &mut Record, rows: &[u8], work: &mut [u32]) -> Result<u32, 
 pub fn take(record: &mut Record, out: &mut [u8], work: &mut [u32]) -> Result<(), u32> {
     // SAFETY: three exclusive borrows, so live, aligned and apart, each with its own length.
     let number = unsafe { raw::jonquilsaw_take(record.as_mut_ptr(), record.len(), out.as_mut_ptr(), out.len(), work.as_mut_ptr(), work.len()) };
+    answered(number)
+}
+
+/// The record of a group of `count` jobs. The library looks at no plan beyond the limit, so these need not be there.
+pub fn start_group(plans: &[PlanWords], count: u32, work: &mut [u32]) -> Result<GroupRecord, u32> {
+    let mut record: GroupRecord = [0; 1 + 14 * GROUP_LIMIT];
+    let words = plans.as_flattened();
+    // SAFETY: `work` and `record` are exclusive borrows and `words` is a shared one, so all are live, aligned and apart, each with its own length.
+    let number =
+        unsafe { raw::jonquilsaw_start_group(words.as_ptr(), words.len(), count, work.as_mut_ptr(), work.len(), record.as_mut_ptr(), record.len()) };
+    answered(number).map(|()| record)
+}
+
+/// How many rows were accepted, by every job.
+pub fn offer_group(record: &mut GroupRecord, rows: &[u8], work: &mut [u32]) -> Result<u32, u32> {
+    let mut accepted = [0];
+    // SAFETY: `record`, `work` and `accepted` are exclusive borrows and `rows` is a shared one, so all are live, aligned and apart, each with its own length.
+    let number = unsafe {
+        raw::jonquilsaw_offer_group(
+            record.as_mut_ptr(),
+            record.len(),
+            rows.as_ptr(),
+            rows.len(),
+            work.as_mut_ptr(),
+            work.len(),
+            accepted.as_mut_ptr(),
+            accepted.len(),
+        )
+    };
+    answered(number).map(|()| accepted[0])
+}
+
+pub fn take_group(record: &mut GroupRecord, job: u32, out: &mut [u8], work: &mut [u32]) -> Result<(), u32> {
+    // SAFETY: three exclusive borrows, so live, aligned and apart, each with its own length.
+    let number =
+        unsafe { raw::jonquilsaw_take_group(record.as_mut_ptr(), record.len(), job, out.as_mut_ptr(), out.len(), work.as_mut_ptr(), work.len()) };
     answered(number)
 }
 

@@ -1,6 +1,7 @@
 //! Why a call was turned away.
 
 use crate::geometry::Rect;
+use crate::group::GROUP_LIMIT;
 use crate::image::{Dimensions, MAX_DIMENSION, MAX_LANES};
 use core::fmt;
 
@@ -75,14 +76,15 @@ pub enum Error {
         /// The bytes there were.
         found: usize,
     },
-    /// Fewer work values than 2 × lanes × target width ([`Dimensions::work_len`] for a picture, which has 4 lanes, and [`Dimensions::plane_work_len`]).
+    /// Fewer work values than 2 × lanes × target width ([`Dimensions::work_len`] for a picture, which has 4 lanes, and [`Dimensions::plane_work_len`]), or than
+    /// all jobs of a group need together.
     WorkLength {
         /// The fewest that do.
         expected: usize,
         /// Those there were.
         found: usize,
     },
-    /// A record that no job can have.
+    /// A record that no job or no group can have.
     InvalidRecord,
     /// Source rows offered while a preview row is ready: take it first.
     RowReady,
@@ -100,6 +102,13 @@ pub enum Error {
     PamMalformed,
     /// A PAM header inside the form with a depth other than 4, a maximum other than 255, or not exactly one tuple type, `RGB_ALPHA`.
     PamUnsupported,
+    /// A group without jobs, or of jobs whose source sizes, layouts, kinds or lanes differ; or a row asked of a job that the group lacks.
+    InvalidGroup,
+    /// A group of more than [`GROUP_LIMIT`] jobs.
+    GroupTooLarge {
+        /// How many there are.
+        jobs: usize,
+    },
 }
 
 /// What a call was given, as far as an error names it: the length that fits and the one there was. A call that takes no such thing leaves it out.
@@ -107,13 +116,14 @@ pub enum Error {
 pub(crate) struct Given {
     pub window: Option<(Rect, Dimensions)>,
     pub lanes: u32,
+    pub jobs: usize,
     pub pixels: (usize, usize),
     pub out: (usize, usize),
     pub work: (usize, usize),
 }
 
 impl Error {
-    /// The library's number, 1 to 12.
+    /// The library's number, 1 to 14.
     #[must_use]
     pub const fn number(self) -> u32 {
         match self {
@@ -129,6 +139,8 @@ impl Error {
             Self::InvalidLanes { .. } => 10,
             Self::PamMalformed => 11,
             Self::PamUnsupported => 12,
+            Self::InvalidGroup => 13,
+            Self::GroupTooLarge { .. } => 14,
         }
     }
 
@@ -150,6 +162,8 @@ impl Error {
             10 => Self::InvalidLanes { value: given.lanes },
             11 => Self::PamMalformed,
             12 => Self::PamUnsupported,
+            13 => Self::InvalidGroup,
+            14 => Self::GroupTooLarge { jobs: given.jobs },
             // 100: a layout that is none or too short an answer, which the boundary's types leave no room for.
             _ => unreachable!("the library answered with number {number}"),
         }
@@ -166,13 +180,15 @@ impl fmt::Display for Error {
             }
             Self::OutputLength { expected, found } => write!(f, "the output buffer has {found} bytes and not {expected}"),
             Self::WorkLength { expected, found } => write!(f, "there are {found} work values and not {expected}"),
-            Self::InvalidRecord => f.write_str("no job can have this record"),
+            Self::InvalidRecord => f.write_str("no job and no group can have this record"),
             Self::RowReady => f.write_str("a preview row is ready and has to be taken first"),
             Self::AllAccepted => f.write_str("all source rows were accepted before"),
             Self::NoneReady => f.write_str("no preview row is ready"),
             Self::InvalidLanes { value } => write!(f, "there are {value} lanes: a plane has 1 to {MAX_LANES}"),
             Self::PamMalformed => f.write_str("the PAM header is outside the form"),
             Self::PamUnsupported => f.write_str("the PAM picture is not of DEPTH 4, MAXVAL 255 and TUPLTYPE RGB_ALPHA"),
+            Self::InvalidGroup => f.write_str("the group has no jobs, or none of this number, or jobs whose sources are not alike"),
+            Self::GroupTooLarge { jobs } => write!(f, "there are {jobs} jobs: a group has 1 to {GROUP_LIMIT}"),
         }
     }
 }
@@ -200,12 +216,12 @@ mod tests {
     use super::*;
 
     fn given() -> Given {
-        Given { window: None, lanes: 5, pixels: (8, 7), out: (4, 5), work: (16, 3) }
+        Given { window: None, lanes: 5, jobs: GROUP_LIMIT + 1, pixels: (8, 7), out: (4, 5), work: (16, 3) }
     }
 
     #[test]
     fn variants_are_the_numbers() {
-        for number in 3..=12 {
+        for number in 3..=14 {
             assert_eq!(Error::of(number, given()).number(), number);
         }
         let size = Dimensions::new(5, 4).unwrap();
@@ -245,6 +261,8 @@ mod tests {
             (Error::of(10, given()), "there are 5 lanes: a plane has 1 to 4"),
             (Error::of(11, given()), "the PAM header is outside the form"),
             (Error::of(12, given()), "the PAM picture is not of DEPTH 4, MAXVAL 255 and TUPLTYPE RGB_ALPHA"),
+            (Error::of(13, given()), "the group has no jobs, or none of this number, or jobs whose sources are not alike"),
+            (Error::of(14, given()), &format!("there are {} jobs: a group has 1 to {GROUP_LIMIT}", GROUP_LIMIT + 1)),
         ] {
             assert_eq!(why.to_string(), said);
         }
@@ -261,6 +279,8 @@ mod tests {
             (10, ErrorKind::InvalidInput),
             (11, ErrorKind::InvalidData),
             (12, ErrorKind::InvalidData),
+            (13, ErrorKind::InvalidInput),
+            (14, ErrorKind::InvalidInput),
         ] {
             let why = io::Error::from(Error::of(number, given()));
             assert_eq!(why.kind(), kind);

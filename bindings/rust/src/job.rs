@@ -214,6 +214,23 @@ impl Job {
         self.record[10]
     }
 
+    /// Preview rows that are ready and not taken.
+    #[must_use]
+    pub fn ready(&self) -> u32 {
+        // The library is asked: a record keeps the rules up to as many rows taken as the accepted ones make.
+        let (mut least, mut most) = (self.taken(), self.record[8]);
+        while least < most {
+            let taken = least + (most - least).div_ceil(2);
+            let mut record = self.record;
+            record[10] = taken;
+            match Self::from_record(record) {
+                Ok(_) => least = taken,
+                Err(_) => most = taken - 1,
+            }
+        }
+        least - self.taken()
+    }
+
     /// Whether an alpha byte other than 255 stood in a row taken; false for a plane.
     #[must_use]
     pub const fn has_alpha(&self) -> bool {
@@ -259,7 +276,7 @@ mod tests {
         let mut work = [0; 8];
         let rows: Vec<u8> = (0..24).collect();
         assert_eq!(job.offer(&rows, &mut work), Ok(2));
-        assert_eq!((job.accepted(), job.taken()), (2, 0));
+        assert_eq!((job.accepted(), job.taken(), job.ready()), (2, 0, 1));
         job.take(&mut [0; 4], &mut work).unwrap();
         assert_eq!(job.offer(&rows[16..], &mut work), Ok(1));
         job.take(&mut [0; 4], &mut work).unwrap();
@@ -306,6 +323,25 @@ mod tests {
         job.take(&mut out[..4], &mut work).unwrap();
         assert_eq!(job.offer(&rows, &mut work), Err(Error::AllAccepted));
         refused(&mut job, &mut out, &mut work, false);
+    }
+
+    #[test]
+    fn as_many_rows_are_ready_as_can_be_taken() {
+        for (height, taller) in [(1, 1), (1, 16384), (2, 5), (3, 1), (7, 7), (5, 16), (16, 5), (2, 16383)] {
+            let (source, crop) = (Dimensions::new(1, height + 3).unwrap(), Rect::new(0, 1, 1, height));
+            let mut work = [0; 2];
+            let mut job = Job::start_plane(source, 1, crop, Dimensions::new(1, taller).unwrap(), &mut work).unwrap();
+            while job.accepted() < height + 3 {
+                assert_eq!(job.ready(), 0);
+                job.offer(&[9], &mut work).unwrap();
+                for left in (0..job.ready()).rev() {
+                    job.take(&mut [0], &mut work).unwrap();
+                    assert!(left % 97 > 3 || job.ready() == left);
+                }
+                assert_eq!(job.take(&mut [0], &mut work), Err(Error::NoneReady));
+            }
+            assert!(job.is_done() && job.ready() == 0);
+        }
     }
 
     #[test]

@@ -3,15 +3,18 @@
 //! lanes. The arithmetic is a library written and proved in Rattle; this crate is its Rust face, with no dependency.
 //!
 //! - [`Preview`] takes bytes in pieces of any length, as a socket delivers them, and hands out preview rows; [`PreviewWriter`] does so as a [`std::io::Write`].
+//! - [`GroupPreview`] makes several previews of one source in one pass and hands out rows with the job that they belong to; [`GroupWriter`] writes them to a sink
+//!   each.
 //! - [`Image`] and [`ImageRef`] hold whole pictures: [`Image::crop`], [`Image::resize`], [`Image::apply_alpha_plane`], with webpkit's names.
-//! - [`Job`] is the library's own job over lent buffers: whole rows in by [`Job::offer`], a row out by [`Job::take`], no heap.
+//! - [`Job`] is the library's own job over lent buffers: whole rows in by [`Job::offer`], a row out by [`Job::take`], no heap. [`Group`] is several of them over the
+//!   same source, each made by a [`Plan`].
 //! - [`Preview::plane`] and [`Job::start_plane`] scale a plane of 1 to 4 lanes; [`Preview::planes`] and [`Planes`] scale luma and both chroma planes of a
 //!   4:2:0 picture.
 //! - [`pam`] reads and writes netpbm's PAM pictures, whole or in pieces.
 //! - [`Dimensions::scaled`] derives a target size from one side; [`Dimensions::chroma`] halves both.
 //!
-//! Without the feature `std`, which is on by default, the crate is `no_std` and uses no heap: [`Job`], [`Planes`], [`ImageRef`], [`apply_alpha_plane`],
-//! [`pam`], [`Dimensions`], [`Rect`] and [`Error`] are there.
+//! Without the feature `std`, which is on by default, the crate is `no_std` and uses no heap: [`Job`], [`Group`], [`Planes`], [`ImageRef`],
+//! [`apply_alpha_plane`], [`pam`], [`Dimensions`], [`Rect`] and [`Error`] are there.
 //!
 //! Rows stand one after another without gaps. A picture's pixels are 4 bytes each in a [`PixelLayout`]'s order, and their colours are not premultiplied by
 //! alpha. A plane's pixels are 1 to 4 lanes, a byte each, side by side, which are scaled as they are.
@@ -41,6 +44,9 @@ compile_error!("libjonquilsaw.a is compiled for x86-64 Linux, and this target is
 mod boundary;
 mod error;
 mod geometry;
+mod group;
+#[cfg(feature = "std")]
+mod group_preview;
 mod image;
 mod job;
 pub mod pam;
@@ -50,10 +56,13 @@ mod preview;
 
 pub use error::{Error, Result, Side};
 pub use geometry::Rect;
+pub use group::{GROUP_LIMIT, Group, Plan};
+#[cfg(feature = "std")]
+pub use group_preview::{GroupPreview, GroupWriter};
 #[cfg(feature = "std")]
 pub use image::Image;
 pub use image::{Dimensions, ImageRef, MAX_DIMENSION, MAX_LANES, PixelLayout, apply_alpha_plane};
 pub use job::{Job, Kind};
 pub use planes::Planes;
 #[cfg(feature = "std")]
-pub use preview::{IntoInnerError, Preview, PreviewError, PreviewWriter};
+pub use preview::{IntoInnerError, Preview, PreviewError, PreviewWriter, WriterError};

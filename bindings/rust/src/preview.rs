@@ -8,13 +8,14 @@ use crate::planes::Planes;
 use std::fmt;
 use std::io::{self, Write};
 
-/// Why a [`Preview`] did not take bytes, or is not finished. Nothing is lost by it: what was taken stays, and the preview can go on.
+/// Why a [`Preview`] or a [`GroupPreview`](crate::GroupPreview) did not take bytes, or is not finished. Nothing is lost by it: what was taken stays, and it can
+/// go on.
 ///
 /// An [`Error`] turns into one, so that `?` serves for both.
 #[derive(Clone, Copy, PartialEq, Eq, Hash, Debug)]
 #[non_exhaustive]
 pub enum PreviewError {
-    /// A preview row is ready: ask [`Preview::next_row`] until it has none.
+    /// A preview row is ready: ask `next_row` until it has none.
     RowReady,
     /// Every byte of the source was there before these.
     TooManyBytes,
@@ -76,6 +77,42 @@ impl From<PreviewError> for io::Error {
     }
 }
 
+/// Why an offer goes through that is made where no row is ready and bytes are missing.
+pub(crate) const ACCEPTED: &str = "no row is ready, source rows remain and every buffer has the right length";
+
+/// The source row that is not whole yet.
+#[derive(Clone, Debug)]
+pub(crate) struct Partial {
+    bytes: Vec<u8>,
+    stride: usize,
+}
+
+impl Partial {
+    pub fn new(stride: usize) -> Self {
+        Self { bytes: Vec::with_capacity(stride), stride }
+    }
+
+    /// The bytes of it that have come.
+    pub fn len(&self) -> usize {
+        self.bytes.len()
+    }
+
+    /// Takes at least one of the bytes and returns how many: whole rows are offered as they come, up to those accepted, and else this one as soon as it is whole.
+    pub fn accept(&mut self, bytes: &[u8], offer: impl FnOnce(&[u8]) -> usize) -> usize {
+        let whole = bytes.len() / self.stride * self.stride;
+        if self.bytes.is_empty() && whole > 0 {
+            return self.stride * offer(&bytes[..whole]);
+        }
+        let taken = bytes.len().min(self.stride - self.bytes.len());
+        self.bytes.extend_from_slice(&bytes[..taken]);
+        if self.bytes.len() == self.stride {
+            offer(&self.bytes);
+            self.bytes.clear();
+        }
+        taken
+    }
+}
+
 /// What is known of the row buffer.
 #[derive(Clone, Copy, PartialEq, Eq, Debug)]
 enum Next {
@@ -115,7 +152,7 @@ enum Next {
 pub struct Preview {
     job: Job,
     work: Vec<u32>,
-    partial: Vec<u8>,
+    partial: Partial,
     row: Vec<u8>,
     next: Next,
 }
@@ -189,7 +226,7 @@ impl Preview {
 
     /// A preview by a fresh job with its work values.
     fn of(job: Job, work: Vec<u32>) -> Self {
-        let (partial, row) = (Vec::with_capacity(job.row_len()), vec![0; job.out_len()]);
+        let (partial, row) = (Partial::new(job.row_len()), vec![0; job.out_len()]);
         Self { job, work, partial, row, next: Next::None }
     }
 
@@ -286,21 +323,10 @@ impl Preview {
 
     /// Takes at least one of the bytes. No row is ready and bytes are missing, so the job accepts what it is offered.
     fn accept(&mut self, bytes: &[u8]) -> usize {
-        const ACCEPTED: &str = "no row is ready, source rows remain and every buffer has the right length";
-        let stride = self.job.row_len();
-        let whole = bytes.len() / stride * stride;
-        if self.partial.is_empty() && whole > 0 {
+        self.partial.accept(bytes, |rows| {
             self.next = Next::Unknown;
-            return stride * self.job.offer(&bytes[..whole], &mut self.work).expect(ACCEPTED);
-        }
-        let taken = bytes.len().min(stride - self.partial.len());
-        self.partial.extend_from_slice(&bytes[..taken]);
-        if self.partial.len() == stride {
-            self.next = Next::Unknown;
-            self.job.offer(&self.partial, &mut self.work).expect(ACCEPTED);
-            self.partial.clear();
-        }
-        taken
+            self.job.offer(rows, &mut self.work).expect(ACCEPTED)
+        })
     }
 }
 
@@ -333,6 +359,19 @@ pub struct PreviewWriter<W> {
     sent: usize,
     /// An error of the sink that no call has told.
     failed: Option<io::Error>,
+}
+
+/// Writes what a sink has not got of a row, and counts what it has.
+pub(crate) fn write_rest(sink: &mut impl Write, row: &[u8], sent: &mut usize) -> io::Result<()> {
+    while *sent < row.len() {
+        match sink.write(&row[*sent..]) {
+            Ok(0) => return Err(io::ErrorKind::WriteZero.into()),
+            Ok(more) => *sent += more,
+            Err(why) if why.kind() == io::ErrorKind::Interrupted => {}
+            Err(why) => return Err(why),
+        }
+    }
+    Ok(())
 }
 
 impl<W: Write> PreviewWriter<W> {
@@ -398,14 +437,7 @@ impl<W: Write> PreviewWriter<W> {
     /// Passes all rows that are ready to the sink.
     fn pass_on(&mut self) -> io::Result<()> {
         loop {
-            while self.sent < self.preview.row.len() {
-                match self.sink.write(&self.preview.row[self.sent..]) {
-                    Ok(0) => return Err(io::ErrorKind::WriteZero.into()),
-                    Ok(sent) => self.sent += sent,
-                    Err(why) if why.kind() == io::ErrorKind::Interrupted => {}
-                    Err(why) => return Err(why),
-                }
-            }
+            write_rest(&mut self.sink, &self.preview.row, &mut self.sent)?;
             if self.preview.next_row().is_none() {
                 return Ok(());
             }
@@ -451,14 +483,17 @@ impl<W: Write> Write for PreviewWriter<W> {
     }
 }
 
-/// Why a [`PreviewWriter`] did not give its sink back, with the writer, as [`std::io::IntoInnerError`] has it.
-pub struct IntoInnerError<W> {
-    writer: Box<PreviewWriter<W>>,
+/// Why a writer did not give its sink or its sinks back, with the writer, as [`std::io::IntoInnerError`] has it.
+pub struct WriterError<T> {
+    writer: Box<T>,
     error: io::Error,
 }
 
-impl<W> IntoInnerError<W> {
-    fn new(writer: PreviewWriter<W>, error: io::Error) -> Self {
+/// Why a [`PreviewWriter`] did not give its sink back, with the writer.
+pub type IntoInnerError<W> = WriterError<PreviewWriter<W>>;
+
+impl<T> WriterError<T> {
+    pub(crate) fn new(writer: T, error: io::Error) -> Self {
         Self { writer: Box::new(writer), error }
     }
 
@@ -475,33 +510,35 @@ impl<W> IntoInnerError<W> {
     }
 
     /// The writer, to go on with.
-    pub fn into_inner(self) -> PreviewWriter<W> {
+    #[must_use]
+    pub fn into_inner(self) -> T {
         *self.writer
     }
 
     /// Both.
-    pub fn into_parts(self) -> (io::Error, PreviewWriter<W>) {
+    #[must_use]
+    pub fn into_parts(self) -> (io::Error, T) {
         (self.error, *self.writer)
     }
 }
 
-impl<W> fmt::Display for IntoInnerError<W> {
+impl<T> fmt::Display for WriterError<T> {
     fn fmt(&self, f: &mut fmt::Formatter<'_>) -> fmt::Result {
         self.error.fmt(f)
     }
 }
 
-impl<W> fmt::Debug for IntoInnerError<W> {
+impl<T> fmt::Debug for WriterError<T> {
     /// The error alone: the writer's buffers tell nobody anything.
     fn fmt(&self, f: &mut fmt::Formatter<'_>) -> fmt::Result {
-        f.debug_struct("IntoInnerError").field("error", &self.error).finish_non_exhaustive()
+        f.debug_struct("WriterError").field("error", &self.error).finish_non_exhaustive()
     }
 }
 
-impl<W> std::error::Error for IntoInnerError<W> {}
+impl<T> std::error::Error for WriterError<T> {}
 
-impl<W> From<IntoInnerError<W>> for io::Error {
-    fn from(why: IntoInnerError<W>) -> Self {
+impl<T> From<WriterError<T>> for io::Error {
+    fn from(why: WriterError<T>) -> Self {
         why.error
     }
 }

@@ -1,6 +1,6 @@
-//! What needs no heap, without the feature `std` too: jobs and pictures over lent buffers, PAM pictures among them.
+//! What needs no heap, without the feature `std` too: jobs, groups and pictures over lent buffers, PAM pictures among them.
 
-use jonquilsaw::{Dimensions, Error, ImageRef, Job, Kind, PixelLayout, Planes, Rect, apply_alpha_plane, pam};
+use jonquilsaw::{Dimensions, Error, GROUP_LIMIT, Group, ImageRef, Job, Kind, PixelLayout, Plan, Planes, Rect, apply_alpha_plane, pam};
 
 const PICTURE: [u8; 24] = [10, 20, 30, 255, 40, 50, 60, 255, 70, 80, 90, 255, 15, 25, 35, 255, 45, 55, 65, 255, 75, 85, 95, 255];
 
@@ -64,6 +64,35 @@ fn planes_over_lent_buffers() -> Result<(), Error> {
         job.take(&mut out[2..3], work)?;
         assert_eq!(out[..3], [14, 27, value + 10]);
     }
+    Ok(())
+}
+
+#[test]
+fn a_group_over_lent_buffers() -> Result<(), Error> {
+    let source = Dimensions::new(2, 3)?;
+    let targets = [Dimensions::new(3, 2)?, Dimensions::new(1, 1)?, source];
+    let plans = targets.map(|target| Plan::picture(source, PixelLayout::Bgra8, Rect::of(source), target));
+    let mut work = [9; 24 + 8 + 16];
+    assert_eq!(Group::work_len_of(&plans), work.len());
+    let mut group = Group::start(&plans, &mut work)?;
+    let mut made = [[7; 24]; 3];
+    while !group.is_done() {
+        let at = group.accepted() as usize * group.row_len();
+        assert!(group.offer(&PICTURE[at..], &mut work)? > 0);
+        for (job, rows) in made.iter_mut().enumerate() {
+            while let Some(told) = group.job(job).filter(|told| told.ready() > 0) {
+                let at = told.taken() as usize * told.out_len();
+                group.take(job, &mut rows[at..at + told.out_len()], &mut work)?;
+            }
+        }
+    }
+    for (target, made) in targets.into_iter().zip(made) {
+        let mut whole = [7; 24];
+        assert_eq!(ImageRef::new(source, PixelLayout::Bgra8, &PICTURE)?.resize_into(target, &mut whole[..target.byte_len()], &mut work), Ok(false));
+        assert_eq!(made, whole);
+    }
+    assert_eq!(Group::start(&[plans[0]; GROUP_LIMIT + 1], &mut work), Err(Error::GroupTooLarge { jobs: GROUP_LIMIT + 1 }));
+    assert_eq!(Group::start(&[], &mut work), Err(Error::InvalidGroup));
     Ok(())
 }
 

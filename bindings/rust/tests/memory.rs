@@ -2,7 +2,7 @@
 #![cfg(feature = "std")]
 #![allow(unsafe_code)]
 
-use jonquilsaw::{Dimensions, Error, PixelLayout, Preview, Rect};
+use jonquilsaw::{Dimensions, Error, GROUP_LIMIT, GroupPreview, PixelLayout, Plan, Preview, Rect};
 use std::alloc::{GlobalAlloc, Layout, System};
 use std::cell::Cell;
 
@@ -62,4 +62,28 @@ fn a_plane_takes_its_own_lanes() {
     let before = allocated();
     assert_eq!(Preview::plane(source, u32::MAX, Rect::of(source), target).unwrap_err(), Error::InvalidLanes { value: u32::MAX });
     assert_eq!(allocated() - before, 4 * target.work_len());
+}
+
+#[test]
+fn a_group_takes_one_source_row_the_work_rows_of_all_and_the_widest_preview_row() {
+    let source = Dimensions::new(16384, 300).unwrap();
+    let targets = [(500, 9), (1280, 7), (160, 2)].map(|(width, height)| Dimensions::new(width, height).unwrap());
+    let plans = targets.map(|target| Plan::picture(source, PixelLayout::Rgba8, Rect::of(source), target));
+    let piece = vec![77; 5 * source.row_len() / 2 + 1];
+    let before = allocated();
+    let mut previews = GroupPreview::new(&plans).unwrap();
+    let work: usize = targets.iter().map(|target| target.work_len()).sum();
+    assert_eq!(allocated() - before, source.row_len() + 4 * work + targets[1].row_len());
+    let before = allocated();
+    let mut rows = [0; 3];
+    while previews.missing() > 0 {
+        let length = piece.len().min(previews.missing());
+        previews.feed(&piece[..length], |job, _| rows[job] += 1).unwrap();
+    }
+    assert_eq!((rows, allocated() - before), ([9, 7, 2], 0));
+    // What is refused takes no more than a group of the limit and four lanes would.
+    let before = allocated();
+    let wide = Plan::plane(source, u32::MAX, Rect::of(source), targets[1]);
+    assert_eq!(GroupPreview::new(&[wide; 2 * GROUP_LIMIT]).unwrap_err(), Error::InvalidLanes { value: u32::MAX });
+    assert_eq!(allocated() - before, 4 * GROUP_LIMIT * targets[1].work_len());
 }

@@ -3,7 +3,7 @@
 
 mod pictures;
 
-use jonquilsaw::{PixelLayout, Preview, PreviewError, PreviewWriter, Rect};
+use jonquilsaw::{GroupPreview, GroupWriter, PixelLayout, Plan, Preview, PreviewError, PreviewWriter, Rect};
 use pictures::{bytes, cases, size, whole};
 use std::collections::VecDeque;
 use std::io::{self, ErrorKind, Write};
@@ -190,4 +190,83 @@ fn a_writer_says_what_is_wrong() {
     let (sink, has_alpha) = writer.finish().unwrap();
     assert!(has_alpha);
     assert_eq!(sink, whole(source, PixelLayout::Rgba8, Rect::of(source), source, &picture[..16]).as_bytes());
+}
+
+/// A writer of a 1 by 3 picture as it is, and of its first and last rows alone.
+fn group_writer(sinks: [Told; 3]) -> GroupWriter<Told> {
+    let source = size(1, 3);
+    let plans = [(0, 3), (0, 1), (2, 1)].map(|(y, height)| Plan::picture(source, PixelLayout::Rgba8, Rect::new(0, y, 1, height), size(1, height)));
+    GroupWriter::new(GroupPreview::new(&plans).unwrap(), sinks.into())
+}
+
+/// What the sinks of such a writer get.
+fn three_parts() -> [&'static [u8]; 3] {
+    [&PICTURE, &PICTURE[..4], &PICTURE[8..]]
+}
+
+#[test]
+fn each_job_has_a_sink_of_its_own() {
+    for length in 1..=PICTURE.len() {
+        let mut writer = group_writer(Default::default());
+        for piece in PICTURE.chunks(length) {
+            writer.write_all(piece).unwrap();
+        }
+        assert!(writer.is_done());
+        let sinks = writer.finish().unwrap();
+        for ((sink, has_alpha), part) in sinks.iter().zip(three_parts()) {
+            assert_eq!((&sink.got[..], sink.flushed, *has_alpha), (part, true, false));
+        }
+    }
+}
+
+#[test]
+fn a_sink_of_a_group_that_fails_or_writes_short_loses_nothing() {
+    type Call = fn(GroupWriter<Told>) -> (io::Error, GroupWriter<Told>);
+    let calls: [Call; 4] = [
+        |mut writer| (writer.write(&PICTURE[4..]).unwrap_err(), writer),
+        |mut writer| (writer.flush().unwrap_err(), writer),
+        |writer| writer.finish().unwrap_err().into_parts(),
+        |writer| writer.into_inner().unwrap_err().into_parts(),
+    ];
+    for call in calls {
+        // The first row of the first two jobs is ready together, and the second's sink fails in it.
+        let failing = Told::once([Do::Take(1), Do::Fail(ErrorKind::Interrupted), Do::Take(1), Do::Fail(ErrorKind::StorageFull)]);
+        let mut first = group_writer([Told::once([Do::Take(3), Do::Take(1)]), failing, Told::default()]);
+        assert_eq!(first.write(&PICTURE).unwrap(), 4);
+        assert!(!first.is_done());
+        let (why, mut writer) = call(first);
+        assert_eq!(why.kind(), ErrorKind::StorageFull);
+        assert_eq!((writer.get_ref()[0].got.len(), writer.get_ref()[1].got.len(), writer.preview().missing()), (4, 2, 8));
+        // It is told once. What the sink had not got follows.
+        writer.write_all(&PICTURE[4..]).unwrap();
+        assert!(writer.is_done());
+        let sinks = writer.finish().unwrap();
+        assert!(sinks.iter().map(|(sink, _)| &sink.got[..]).eq(three_parts()));
+    }
+    let mut none = group_writer([Told::default(), Told::once([Do::Take(0)]), Told::default()]);
+    assert_eq!(none.write(&PICTURE).unwrap(), 4);
+    assert_eq!(none.flush().unwrap_err().kind(), ErrorKind::WriteZero);
+}
+
+#[test]
+fn what_a_group_s_writer_says_of_its_input() {
+    let mut writer = group_writer(Default::default());
+    writer.write_all(&PICTURE[..7]).unwrap();
+    let (early, mut writer) = writer.finish().unwrap_err().into_parts();
+    assert_eq!((early.kind(), early.to_string()), (ErrorKind::UnexpectedEof, "the source ends 5 bytes early".into()));
+    // The sinks alone, with the rows that were ready; and a write among them.
+    writer.get_mut()[2].write_all(&[5]).unwrap();
+    writer.write_all(&PICTURE[7..]).unwrap();
+    assert_eq!(writer.write(&[0]).unwrap_err().kind(), ErrorKind::InvalidInput);
+    let sinks = writer.into_inner().unwrap();
+    assert_eq!(sinks[2].got, [&[5][..], &PICTURE[8..]].concat());
+    assert_eq!(sinks[0].got, PICTURE);
+}
+
+#[test]
+#[should_panic(expected = "there is one sink for each job")]
+fn a_sink_for_each_job() {
+    let source = size(1, 3);
+    let plan = Plan::picture(source, PixelLayout::Rgba8, Rect::of(source), source);
+    let _ = GroupWriter::new(GroupPreview::new(&[plan, plan]).unwrap(), vec![Told::default()]);
 }

@@ -178,11 +178,11 @@ abbrev jobOr : Job → Told → Job
 jobOr other (told.Job j) = j
 jobOr other told.Nothing = other
 
-job-told : (b : Bool) (i j : Job) → cond b (told.Job i) told.Nothing ≡ told.Job j → (b ≡ true) × (i ≡ j)
+pub job-told : (b : Bool) (i j : Job) → cond b (told.Job i) told.Nothing ≡ told.Job j → (b ≡ true) × (i ≡ j)
 job-told true i j e = (refl, ap (jobOr i) e)
 job-told false i j e = absurd (true≢false (sym (ap isJob e)))
 
-none-told : (b : Bool) (i : Job) → cond b (told.Job i) told.Nothing ≡ told.Nothing → b ≡ false
+pub none-told : (b : Bool) (i : Job) → cond b (told.Job i) told.Nothing ≡ told.Nothing → b ≡ false
 none-told true i e = absurd (true≢false (ap isJob e))
 none-told false i e = refl
 

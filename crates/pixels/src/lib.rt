@@ -54,6 +54,10 @@ pub enum Refusal {
     PamMalformed,
     // a PAM header inside the form, of another depth, maximum or tuple type than the reader takes
     PamUnsupported,
+    // a group without jobs, or of jobs that do not go over one source; a job that the group lacks
+    InvalidGroup,
+    // a group of more jobs than the limit
+    GroupTooLarge,
 }
 
 // Whether what was asked may be done, or why not.

@@ -21,6 +21,8 @@ impl Refusal {
             Refusal::InvalidLanes => 10,
             Refusal::PamMalformed => 11,
             Refusal::PamUnsupported => 12,
+            Refusal::InvalidGroup => 13,
+            Refusal::GroupTooLarge => 14,
         }
     }
 }

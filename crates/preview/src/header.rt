@@ -1,7 +1,8 @@
-// The header of a PAM picture: read from standard input byte by byte, so that no byte of a pixel is read with it, and written to standard output.
+// The header of a PAM picture: read from standard input byte by byte, so that no byte of a pixel is read with it, and written to where a preview goes.
+use crate::Out;
 use crate::say;
 use crate::say_refusal;
-use crate::write_out;
+use crate::write_to;
 use libc::STDIN_FILENO;
 use pam_header::PamHeader;
 use pam_header::pam_header;
@@ -123,19 +124,19 @@ pub(crate) fn read_header() -> Head {
 // ---- writing
 
 // Fills the buffer, which has the header's length, and writes it.
-fn put_header(size: Dimensions, out: &mut [u8]) -> bool {
+fn put_header(to: Out, size: Dimensions, out: &mut [u8]) -> bool {
     let checked = pam_write_header(size, out);
     match checked {
         Checked::Refused(why) => {
             say_refusal(why);
             false
         }
-        Checked::Fit => write_out(out),
+        Checked::Fit => write_to(to, out),
     }
 }
 
 // Writes the header of a picture of this size, at most 73 bytes; false where something stopped it.
-pub(crate) fn write_header(size: Dimensions) -> bool {
+pub(crate) fn write_header(to: Out, size: Dimensions) -> bool {
     let mut text = [0u8; 73];
     let length = pam_header_length(size);
     match length {
@@ -143,6 +144,6 @@ pub(crate) fn write_header(size: Dimensions) -> bool {
             say_refusal(why);
             false
         }
-        PamLength::Bytes(n) => put_header(size, &mut text[..n]),
+        PamLength::Bytes(n) => put_header(to, size, &mut text[..n]),
     }
 }

@@ -1,8 +1,15 @@
-// preview [--raw WIDTH HEIGHT] TARGET_WIDTH TARGET_HEIGHT [X Y CROP_WIDTH CROP_HEIGHT]
+// preview [--raw WIDTH HEIGHT] TARGET_WIDTH TARGET_HEIGHT [X Y CROP_WIDTH CROP_HEIGHT] [--also WIDTHxHEIGHT=FILE]...
 // Reads a PAM picture from standard input and writes a PAM preview to standard output, its rows as they become ready, one row of each held at a time; with
-// --raw, raw RGBA rows of both. A target side of 0 is derived from the crop's size. What goes wrong is said in one line on standard error.
+// --raw, raw RGBA rows of both. A target side of 0 is derived from the crop's size. Each --also writes another preview of the same crop to its file, in the same
+// pass. What goes wrong is said in one line on standard error.
+mod also;
 mod header;
 
+use also::Words;
+use also::also;
+use also::ask;
+use also::words_of;
+use also::write_file;
 use header::Head;
 use header::read_header;
 use header::write_header;
@@ -61,11 +68,11 @@ fn say_no_number(i: usize) {
     say(b" is not a decimal number below 4294967296\n");
 }
 
-// Whether the first argument is the option.
-fn is_raw() -> bool {
+// Whether argument i is this word.
+fn is_word(i: usize, word: &[u8]) -> bool {
     let mut text = io::buffer();
-    let n = os::arg(1, &mut text);
-    same(&text[..n], b"--raw")
+    let n = os::arg(i, &mut text);
+    same(&text[..n], word)
 }
 
 // Puts the arguments from `first` on into `numbers`; at the first that is no number says so and answers false. `count` has all words in it, the program's
@@ -113,6 +120,26 @@ fn write_out(bytes: &[u8]) -> bool {
         os::fail(b"preview: standard output");
     }
     going
+}
+
+// Where a preview goes: to the file that argument `word` names, or where that is 0 to standard output.
+struct Out {
+    word: usize,
+    fd: i32,
+}
+
+fn standard_output() -> Out {
+    Out {
+        word: 0,
+        fd: STDOUT_FILENO,
+    }
+}
+
+fn write_to(to: Out, bytes: &[u8]) -> bool {
+    if to.word == 0 {
+        return write_out(bytes);
+    }
+    write_file(to, bytes)
 }
 
 // ---- the rows
@@ -239,11 +266,15 @@ fn close(whole: bool) {
 }
 
 // Writes the preview's header, where its form has one; false where something stopped it.
-fn open(form: Form, target: Dimensions) -> bool {
+fn open_to(form: Form, to: Out, target: Dimensions) -> bool {
     match form {
-        Form::Pam => write_header(target),
+        Form::Pam => write_header(to, target),
         Form::Raw => true,
     }
+}
+
+fn open(form: Form, target: Dimensions) -> bool {
+    open_to(form, standard_output(), target)
 }
 
 // One row of the widest picture in, one out, and the work values of the widest preview.
@@ -262,18 +293,6 @@ fn scale(form: Form, source: Dimensions, crop: Rect, target: Dimensions) {
     }
 }
 
-// The preview's size, derived where a side of it is 0: the crop lies within the picture.
-fn derive(form: Form, source: Dimensions, crop: Rect, width: u32, height: u32) {
-    let sized = Dimensions {
-        width: crop.width,
-        height: crop.height,
-    }.scaled(width, height);
-    match sized {
-        Sized::Refused(why) => say_refusal(why),
-        Sized::Size(target) => scale(form, source, crop, target),
-    }
-}
-
 // A side, or where it is 0 the other.
 fn either(side: u32, other: u32) -> u32 {
     if side == 0 {
@@ -282,24 +301,40 @@ fn either(side: u32, other: u32) -> u32 {
     side
 }
 
-// The sizes that the arguments ask for, tested before a side is derived: from a crop beyond the picture none is. A side that is still to be derived passes
-// as the other one does.
-fn preview(form: Form, source: Dimensions, crop: Rect, width: u32, height: u32) {
-    let plan = Plan {
+// A preview of this size.
+fn picture(source: Dimensions, crop: Rect, target: Dimensions) -> Plan {
+    Plan {
         source,
         layout: PixelLayout::Rgba8,
         crop,
-        target: Dimensions {
-            width: either(width, height),
-            height: either(height, width),
-        },
+        target,
         kind: Kind::Picture,
         lanes: PIXEL_LANES as u32,
+    }
+}
+
+// The size of the preview whose sides the arguments ask for, tested before one that is 0 is derived: from a crop beyond the picture none is. A side that is
+// still to be derived passes as the other one does.
+fn preview_size(source: Dimensions, crop: Rect, sides: Dimensions) -> Sized {
+    let either = Dimensions {
+        width: either(sides.width, sides.height),
+        height: either(sides.height, sides.width),
     };
-    let checked = check_start(plan, 131072);
+    let checked = check_start(picture(source, crop, either), 131072);
     match checked {
-        Checked::Refused(why) => say_refusal(why),
-        Checked::Fit => derive(form, source, crop, width, height),
+        Checked::Refused(why) => Sized::Refused(why),
+        Checked::Fit => Dimensions {
+            width: crop.width,
+            height: crop.height,
+        }.scaled(sides.width, sides.height),
+    }
+}
+
+fn preview(form: Form, source: Dimensions, crop: Rect, sides: Dimensions) {
+    let sized = preview_size(source, crop, sides);
+    match sized {
+        Sized::Refused(why) => say_refusal(why),
+        Sized::Size(target) => scale(form, source, crop, target),
     }
 }
 
@@ -311,16 +346,17 @@ fn crop_of(source: Dimensions, cropped: bool, crop: Rect) -> Rect {
     Rect::new(0, 0, source.width, source.height)
 }
 
-// ---- the two forms. `count` has all words in it, the program's own name too
+// ---- the two forms. Each calls `preview` or `also` itself: a function that did it for both would take the stack of both for either.
 
 fn say_usage() {
     say(
-        b"usage: preview [--raw WIDTH HEIGHT] TARGET_WIDTH TARGET_HEIGHT [X Y CROP_WIDTH CROP_HEIGHT]\n",
+        b"usage: preview [--raw WIDTH HEIGHT] TARGET_WIDTH TARGET_HEIGHT [X Y CROP_WIDTH CROP_HEIGHT] [--also WIDTHxHEIGHT=FILE]...\n",
     );
 }
 
 // The size stands in the arguments.
-fn preview_raw(count: usize) {
+fn preview_raw(words: Words) {
+    let count = words.before;
     if count != 6 && count != 10 {
         say_usage();
         return;
@@ -332,31 +368,54 @@ fn preview_raw(count: usize) {
             height: n[1],
         };
         let crop = crop_of(source, count == 10, Rect::new(n[4], n[5], n[6], n[7]));
-        preview(Form::Raw, source, crop, n[2], n[3]);
+        let sides = Dimensions {
+            width: n[2],
+            height: n[3],
+        };
+        let asked = ask(words, sides);
+        if asked.going {
+            if asked.count == 1 {
+                preview(Form::Raw, source, crop, sides);
+                return;
+            }
+            also(Form::Raw, source, crop, asked);
+        }
     }
 }
 
 // The size stands in the header.
-fn preview_pam(count: usize) {
+fn preview_pam(words: Words) {
+    let count = words.before;
     if count != 3 && count != 7 {
         say_usage();
         return;
     }
     let mut n = [0u32; 8];
     if arguments(&mut n, 1, count) {
-        let head = read_header();
-        if let Head::Size(source) = head {
-            let crop = crop_of(source, count == 7, Rect::new(n[2], n[3], n[4], n[5]));
-            preview(Form::Pam, source, crop, n[0], n[1]);
+        let sides = Dimensions {
+            width: n[0],
+            height: n[1],
+        };
+        let asked = ask(words, sides);
+        if asked.going {
+            let head = read_header();
+            if let Head::Size(source) = head {
+                let crop = crop_of(source, count == 7, Rect::new(n[2], n[3], n[4], n[5]));
+                if asked.count == 1 {
+                    preview(Form::Pam, source, crop, sides);
+                    return;
+                }
+                also(Form::Pam, source, crop, asked);
+            }
         }
     }
 }
 
 fn main() {
-    let count = os::arg_count();
-    if is_raw() {
-        preview_raw(count);
+    let words = words_of();
+    if is_word(1, b"--raw") {
+        preview_raw(words);
         return;
     }
-    preview_pam(count);
+    preview_pam(words);
 }

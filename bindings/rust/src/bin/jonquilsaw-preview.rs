@@ -1,16 +1,17 @@
 //! `jonquilsaw-preview`: the command to deploy. It reads and writes what the repository's `./preview` does, with true statuses.
 //!
-//! A PAM picture, or with `--raw` rows without a header, comes in on standard input, and preview rows go out as they become ready. What goes wrong is said in one
-//! line on standard error.
+//! A PAM picture, or with `--raw` rows without a header, comes in on standard input, and preview rows go out as they become ready. With `--also` further previews
+//! are made in the same pass and go to files. What goes wrong is said in one line on standard error.
 
-use jonquilsaw::{Dimensions, Error, PixelLayout, Preview, Rect, pam};
-use std::ffi::OsString;
+use jonquilsaw::{Dimensions, Error, GROUP_LIMIT, GroupPreview, PixelLayout, Plan, Rect, pam};
+use std::ffi::{OsStr, OsString};
 use std::fs::File;
 use std::io::{self, Read, Write};
 use std::os::fd::AsFd;
+use std::os::unix::ffi::OsStrExt;
 use std::process::ExitCode;
 
-const USAGE: &str = "usage: preview [--raw WIDTH HEIGHT] TARGET_WIDTH TARGET_HEIGHT [X Y CROP_WIDTH CROP_HEIGHT]";
+const USAGE: &str = "usage: preview [--raw WIDTH HEIGHT] TARGET_WIDTH TARGET_HEIGHT [X Y CROP_WIDTH CROP_HEIGHT] [--also WIDTHxHEIGHT=FILE]...";
 
 const HELP: &str = "
 Scales a picture. A PAM picture (netpbm's P7; DEPTH 4, MAXVAL 255, TUPLTYPE RGB_ALPHA) comes in on
@@ -27,6 +28,18 @@ Status: 0 where the preview was written; 1 where the picture, a size or the crop
 input is too short or too long, or the output cannot be written; 2 where the arguments are not of
 this form.
 ";
+
+/// Of the option --also, with the limit as it stands.
+fn further_help() -> String {
+    format!(
+        "
+With --also a further preview of the same crop, of its own size, is made in the same pass over the
+input and written to the file, in the form of the first. There are at most {GROUP_LIMIT} previews in all.
+
+    preview 320 0 --also 640x0=middle.pam --also 1280x0=large.pam <in.pam >small.pam
+"
+    )
+}
 
 /// The bytes of a header that are read.
 const HEADER: usize = 4096;
@@ -52,6 +65,9 @@ impl Stop {
 
 impl From<Error> for Stop {
     fn from(why: Error) -> Self {
+        if let Error::GroupTooLarge { jobs } = why {
+            return Self::picture(format!("there are {jobs} previews to make: at most {GROUP_LIMIT} are made in one pass"));
+        }
         Self::picture(match why {
             Error::PamMalformed => "the PAM header is outside the form: a line is wrong, unknown, missing or given twice",
             Error::PamUnsupported => {
@@ -63,23 +79,87 @@ impl From<Error> for Stop {
     }
 }
 
+fn number(text: &str) -> Option<u32> {
+    if text.bytes().all(|b| b.is_ascii_digit()) { text.parse().ok() } else { None }
+}
+
 fn numbers(words: &[OsString]) -> Result<Vec<u32>, Stop> {
-    let number = |word: &OsString| word.to_str().filter(|text| text.bytes().all(|b| b.is_ascii_digit())).and_then(|text| text.parse().ok());
     words
         .iter()
         .zip(1..)
-        .map(|(word, place)| number(word).ok_or_else(|| Stop::usage(format!("preview: argument {place} is not a decimal number below 4294967296"))))
+        .map(|(word, place)| {
+            let wrong = || Stop::usage(format!("preview: argument {place} is not a decimal number below 4294967296"));
+            word.to_str().and_then(number).ok_or_else(wrong)
+        })
         .collect()
 }
 
+/// A preview that goes to a file. A side of 0 is to be derived.
+struct Further {
+    target: [u32; 2],
+    file: OsString,
+}
+
+impl Further {
+    /// WIDTHxHEIGHT=FILE.
+    fn of(word: &OsStr) -> Option<Self> {
+        let at = word.as_bytes().iter().position(|&byte| byte == b'=')?;
+        let (size, file) = (std::str::from_utf8(&word.as_bytes()[..at]).ok()?, &word.as_bytes()[at + 1..]);
+        let (width, height) = size.split_once('x')?;
+        if file.is_empty() { None } else { Some(Self { target: [number(width)?, number(height)?], file: OsStr::from_bytes(file).into() }) }
+    }
+
+    /// Of the words from the first `--also` on: pairs of it and what it asks for.
+    fn all(words: &[OsString]) -> Result<Vec<Self>, Stop> {
+        let one = |pair: &[OsString]| match pair {
+            [option, word] if option == "--also" => {
+                let wrong = || Stop::usage(format!("preview: --also takes WIDTHxHEIGHT=FILE, and not '{}'", word.to_string_lossy()));
+                Self::of(word).ok_or_else(wrong)
+            }
+            _ => Err(Stop::usage(USAGE)),
+        };
+        words.chunks(2).map(one).collect()
+    }
+}
+
+/// Where a preview's rows go.
+struct Output {
+    name: String,
+    file: File,
+}
+
+impl Output {
+    /// The stream itself: a row goes out whole, as soon as it is ready.
+    fn standard() -> Result<Self, Stop> {
+        let name = "standard output".into();
+        let file = io::stdout().as_fd().try_clone_to_owned().map_err(|why| Stop::stream("standard output", &why))?.into();
+        Ok(Self { name, file })
+    }
+
+    fn create(file: &OsStr) -> Result<Self, Stop> {
+        let name = file.to_string_lossy().into_owned();
+        let file = File::create(file).map_err(|why| Stop::stream(&name, &why))?;
+        Ok(Self { name, file })
+    }
+
+    fn write(&mut self, bytes: &[u8]) -> Result<(), Stop> {
+        self.file.write_all(bytes).map_err(|why| Stop::stream(&self.name, &why))
+    }
+}
+
 /// The sizes are tested before a side is derived: from a crop beyond the picture none is. A side that is still to be derived passes as the other one does.
-fn plan(source: Dimensions, n: &[u32]) -> Result<(Preview, Dimensions), Error> {
+fn plan(source: Dimensions, n: &[u32], further: &[Further]) -> Result<(GroupPreview, Vec<Dimensions>), Error> {
     let either = |side: u32, other: u32| if side == 0 { other } else { side };
-    Dimensions::new(either(n[0], n[1]), either(n[1], n[0]))?;
+    let asked: Vec<_> = [[n[0], n[1]]].into_iter().chain(further.iter().map(|one| one.target)).collect();
+    for [width, height] in &asked {
+        Dimensions::new(either(*width, *height), either(*height, *width))?;
+    }
     let crop = if n.len() == 6 { Rect::new(n[2], n[3], n[4], n[5]) } else { Rect::of(source) };
     crop.fits(source)?;
-    let target = Dimensions::new(crop.width(), crop.height())?.scaled(n[0], n[1])?;
-    Ok((Preview::new(source, PixelLayout::Rgba8, crop, target)?, target))
+    let window = Dimensions::new(crop.width(), crop.height())?;
+    let targets = asked.into_iter().map(|[width, height]| window.scaled(width, height)).collect::<Result<Vec<_>, _>>()?;
+    let plans: Vec<_> = targets.iter().map(|&target| Plan::picture(source, PixelLayout::Rgba8, crop, target)).collect();
+    Ok((GroupPreview::new(&plans)?, targets))
 }
 
 /// What is said of an input whose first line is P7, or, cut off, a beginning of that; else that it is not.
@@ -117,12 +197,12 @@ fn head(input: &mut File, buffer: &mut [u8]) -> Result<(Dimensions, Vec<u8>), St
 }
 
 /// Takes what a read brought and writes the rows that it makes ready.
-fn pass(preview: &mut Preview, mut bytes: &[u8], output: &mut File) -> Result<(), Stop> {
+fn pass(previews: &mut GroupPreview, mut bytes: &[u8], outputs: &mut [Output]) -> Result<(), Stop> {
     while !bytes.is_empty() {
-        let taken = preview.push(bytes).map_err(|_| Stop::picture("the input is too long: it goes on after the last row"))?;
+        let taken = previews.push(bytes).map_err(|_| Stop::picture("the input is too long: it goes on after the last row"))?;
         bytes = &bytes[taken..];
-        while let Some(row) = preview.next_row() {
-            output.write_all(row).map_err(|why| Stop::stream("standard output", &why))?;
+        while let Some((job, row)) = previews.next_row() {
+            outputs[job].write(row)?;
         }
     }
     Ok(())
@@ -141,8 +221,10 @@ fn read(input: &mut File, buffer: &mut [u8]) -> Result<usize, Stop> {
 fn run() -> Result<(), Stop> {
     let words: Vec<OsString> = std::env::args_os().skip(1).collect();
     if words.first().is_some_and(|word| word == "-h" || word == "--help") {
-        return io::stdout().write_all(format!("{USAGE}\n{HELP}").as_bytes()).map_err(|why| Stop::stream("standard output", &why));
+        let help = format!("{USAGE}\n{HELP}{}", further_help());
+        return io::stdout().write_all(help.as_bytes()).map_err(|why| Stop::stream("standard output", &why));
     }
+    let (words, further) = words.split_at(words.iter().position(|word| word == "--also").unwrap_or(words.len()));
     let raw = words.first().is_some_and(|word| word == "--raw");
     let words = &words[usize::from(raw)..];
     let sizes = if raw { 2 } else { 0 };
@@ -150,25 +232,29 @@ fn run() -> Result<(), Stop> {
         return Err(Stop::usage(USAGE));
     }
     let n = numbers(words)?;
-    // The streams themselves: a row goes out whole, as soon as it is ready.
+    let further = Further::all(further)?;
     let mut input = File::from(io::stdin().as_fd().try_clone_to_owned().map_err(|why| Stop::stream("standard input", &why))?);
-    let mut output = File::from(io::stdout().as_fd().try_clone_to_owned().map_err(|why| Stop::stream("standard output", &why))?);
+    let mut outputs = vec![Output::standard()?];
     let mut buffer = vec![0; 65536];
     let (source, rest) = if raw { (Dimensions::new(n[0], n[1])?, Vec::new()) } else { head(&mut input, &mut buffer)? };
-    let (mut preview, target) = plan(source, &n[sizes..])?;
-    if !raw {
-        let mut room = [0; pam::MAX_HEADER_LEN];
-        output.write_all(pam::write_header(target, &mut room)).map_err(|why| Stop::stream("standard output", &why))?;
+    let (mut previews, targets) = plan(source, &n[sizes..], &further)?;
+    for one in &further {
+        outputs.push(Output::create(&one.file)?);
     }
-    pass(&mut preview, &rest, &mut output)?;
+    if !raw {
+        for (output, target) in outputs.iter_mut().zip(targets) {
+            output.write(pam::write_header(target, &mut [0; pam::MAX_HEADER_LEN]))?;
+        }
+    }
+    pass(&mut previews, &rest, &mut outputs)?;
     loop {
         match read(&mut input, &mut buffer)? {
             0 => break,
-            some => pass(&mut preview, &buffer[..some], &mut output)?,
+            some => pass(&mut previews, &buffer[..some], &mut outputs)?,
         }
     }
-    if preview.missing() > 0 {
-        return Err(Stop::picture(format!("the input is too short: it has only {} whole rows", preview.job().accepted())));
+    if previews.missing() > 0 {
+        return Err(Stop::picture(format!("the input is too short: it has only {} whole rows", previews.group().accepted())));
     }
     Ok(())
 }

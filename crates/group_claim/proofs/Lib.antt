@@ -1,0 +1,10 @@
+pub mod Alone
+pub mod Stepping
+pub mod OfferSteps
+pub mod TakeSteps
+pub mod Projecting
+pub mod Starting
+pub mod Standing
+pub mod Claims
+pub mod Theorem
+pub mod Trials

@@ -1,0 +1,5 @@
+pub mod Jobs
+pub mod Alike
+pub mod Lawful
+pub mod Going
+pub mod Forming

@@ -1,0 +1,3 @@
+pub mod Group
+pub mod Inner
+pub mod Tests

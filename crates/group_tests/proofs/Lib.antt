@@ -1,0 +1,3 @@
+pub mod Summing
+pub mod Testing
+pub mod Answering

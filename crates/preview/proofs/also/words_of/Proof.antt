@@ -1,0 +1,54 @@
+-- `words_of` ends: the words left are the measure. Assumes nothing.
+use Prim.Native.Nat.{_-_, _≤_}
+use borrow.Author.Needs.{needs}
+use Rattle.preview.proofs.also.words_of.Statement.{statement}
+use Rattle.preview.proofs.also.words_of.Tie as tie
+
+abbrev Inv-loop : tie.InvT-loop
+Inv-loop count i₀ t3 i = 0 ≤ i
+
+abbrev μ-loop : tie.MeasureT-loop
+μ-loop count i₀ t3 i = count - i
+
+arg-count-requires : tie.Need-arg-count-requires Inv-loop μ-loop
+arg-count-requires c κs = search needs
+
+loop-holds : tie.Need-loop-holds Inv-loop μ-loop
+loop-holds c = search needs
+
+slice-aggregate-is-word : tie.Need-slice-aggregate-is-word Inv-loop μ-loop
+slice-aggregate-is-word c = search needs
+
+is-word-requires : tie.Need-is-word-requires Inv-loop μ-loop
+is-word-requires c κs = search needs
+
+returns : tie.Need-returns Inv-loop μ-loop
+returns c = search needs
+
+add-i : tie.Need-add-i Inv-loop μ-loop
+add-i c = search needs
+
+loop-less : tie.Need-loop-less Inv-loop μ-loop
+loop-less c = search needs
+
+loop-again : tie.Need-loop-again Inv-loop μ-loop
+loop-again c = search needs
+
+returns-2 : tie.Need-returns-2 Inv-loop μ-loop
+returns-2 c = search needs
+
+pub words-of-spec : {M : Type 1} → statement M
+words-of-spec =
+    tie.close
+    (tie.spec
+    Inv-loop
+    μ-loop
+    arg-count-requires
+    loop-holds
+    slice-aggregate-is-word
+    is-word-requires
+    returns
+    add-i
+    loop-less
+    loop-again
+    returns-2)
