@@ -27,9 +27,9 @@ extern "C" {
 #endif
 
 #define JONQUILSAW_VERSION_MAJOR 0
-#define JONQUILSAW_VERSION_MINOR 6
+#define JONQUILSAW_VERSION_MINOR 7
 #define JONQUILSAW_VERSION_PATCH 0
-#define JONQUILSAW_VERSION "0.6.0"
+#define JONQUILSAW_VERSION "0.7.0"
 
 /* The largest side of a picture or a plane. */
 #define JONQUILSAW_MAX_SIDE 16384u
@@ -52,8 +52,8 @@ extern "C" {
 #define JONQUILSAW_WORK_WORDS(target_width)                                                        \
     JONQUILSAW_WORK_WORDS_OF(JONQUILSAW_PIXEL_LANES, target_width)
 
-/* The most jobs of a group. */
-#define JONQUILSAW_GROUP_LIMIT 8u
+/* The most jobs of a group: six. A seventh is JONQUILSAW_GROUP_TOO_LARGE. */
+#define JONQUILSAW_GROUP_LIMIT 6u
 
 /* How many words the plan of a group's job takes. In their order: source width and height; layout;
  * crop x, y, width and height; target width and height; the kind, 0 for a picture and 1 for a plane;
@@ -120,7 +120,7 @@ typedef enum jonquilsaw_number {
     /* a group of no jobs, or of jobs that differ in source size, layout, kind or lanes, tested
      * straight after 2; a take of a job that the group lacks, tested straight after 6 */
     JONQUILSAW_INVALID_GROUP = 13,
-    /* a group of more than JONQUILSAW_GROUP_LIMIT jobs; tested straight after 13 */
+    /* a group of more than six jobs (JONQUILSAW_GROUP_LIMIT); tested straight after 13 */
     JONQUILSAW_GROUP_TOO_LARGE = 14,
     /* a layout argument that is none, or a slice for the answer that is too short; of a group's plans
      * too few words, or a layout or kind word that is none; tested before all others */

@@ -1313,6 +1313,18 @@ static void groups_with_types(void) {
         job = jonquilsaw_group_job(&group, 1);
         EXPECT(jonquilsaw_job_taken(&job) == 1);
     }
+    /* six, and a seventh */
+    jonquilsaw_plan seven[7];
+    jonquilsaw_group six;
+    uint32_t *six_work = words_of(7 * 16, 5);
+    for (uint32_t i = 0; i < 7; i++) seven[i] = (jonquilsaw_plan){source, JONQUILSAW_RGBA8, jonquilsaw_whole(source), {2, 1}};
+    memset(&six, 9, sizeof six);
+    EXPECT(sizeof six == 4 * (1 + 6 * 14));
+    EXPECT(jonquilsaw_group_start(&six, seven, 7, six_work, 7 * 16) == JONQUILSAW_GROUP_TOO_LARGE);
+    EXPECT(words_all(six_work, 7 * 16, 5) && six.words[0] == 0x09090909u);
+    EXPECT(jonquilsaw_group_start(&six, seven, 6, six_work, 7 * 16) == JONQUILSAW_OK && jonquilsaw_group_count(&six) == 6);
+    EXPECT(words_all(six_work, 6 * 16, 0) && words_all(six_work + 6 * 16, 16, 5));
+    give_back(six_work, 4 * 7 * 16);
     /* more plans than a group holds are not read */
     jonquilsaw_plan many[JONQUILSAW_GROUP_LIMIT];
     jonquilsaw_group group;

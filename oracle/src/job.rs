@@ -16,7 +16,7 @@ pub const PICTURE: u32 = 0;
 pub const PLANE: u32 = 1;
 
 /// The most jobs of a group, the words of a plan, and the words of the record of a group of so many jobs: their count, then the record of each.
-pub const GROUP_LIMIT: usize = 8;
+pub const GROUP_LIMIT: usize = 6;
 pub const PLAN_WORDS: usize = 11;
 pub fn group_words(jobs: usize) -> usize {
     1 + size_of::<Record>() / size_of::<u32>() * jobs

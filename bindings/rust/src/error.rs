@@ -104,7 +104,7 @@ pub enum Error {
     PamUnsupported,
     /// A group without jobs, or of jobs whose source sizes, layouts, kinds or lanes differ; or a row asked of a job that the group lacks.
     InvalidGroup,
-    /// A group of more than [`GROUP_LIMIT`] jobs.
+    /// A group of more than six jobs ([`GROUP_LIMIT`]).
     GroupTooLarge {
         /// How many there are.
         jobs: usize,

@@ -6,8 +6,8 @@ use crate::geometry::Rect;
 use crate::image::{Dimensions, MAX_LANES, PixelLayout};
 use crate::job::{Job, Kind};
 
-/// The most jobs of a [`Group`].
-pub const GROUP_LIMIT: usize = 8;
+/// The most jobs of a [`Group`]: six. A seventh is [`Error::GroupTooLarge`].
+pub const GROUP_LIMIT: usize = 6;
 
 /// What a job of a [`Group`] makes: the window `crop` of a source, scaled to `target`.
 ///

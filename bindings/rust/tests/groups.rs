@@ -257,6 +257,23 @@ fn as_many_as_the_limit_and_no_more() {
 }
 
 #[test]
+fn six_and_seven() {
+    assert_eq!(GROUP_LIMIT, 6);
+    let (source, target) = (size(4, 3), size(2, 2));
+    for form in Form::ALL {
+        let plans = [form.plan(source, (Rect::of(source), target)); 7];
+        let mut work = vec![7; Group::work_len_of(&plans)];
+        assert_eq!(Group::start(&plans, &mut work), Err(Error::GroupTooLarge { jobs: 7 }));
+        assert_eq!(GroupPreview::new(&plans).unwrap_err(), Error::GroupTooLarge { jobs: 7 });
+        assert!(work.iter().all(|&value| value == 7));
+        let group = Group::start(&plans[..6], &mut work).unwrap();
+        assert_eq!(group.record()[0], 6);
+        assert!(group.job(5).is_some() && group.job(6).is_none());
+        assert!(GroupPreview::new(&plans[..6]).is_ok());
+    }
+}
+
+#[test]
 fn jobs_that_differ_and_a_group_of_none() {
     let (source, target) = (size(4, 3), size(2, 2));
     let make = (Rect::new(0, 0, 3, 2), target);

@@ -1,5 +1,5 @@
 -- Trials of groups: what the definitions give beside what SCOPE, "Groups", says. proofs/Trials.antt computes them. Assumes nothing.
-use Prim.Native.Nat.{ℕ, _+_, _*_}
+use Prim.Native.Nat.{ℕ}
 use mathlib.Core.List.{List, [], _∷_, _++_}
 use mathlib.Core.Path.{_≡_}
 use lib.ListN.{replicate}
@@ -10,7 +10,6 @@ use Rattle.job_rules.specs.declared.Kind.the-variants.{Picture}
 use Rattle.job_rules.specs.declared.Plan.{Plan}
 use Rattle.job_rules.specs.Rules.{planOf, planeOf}
 use Rattle.job_claim.specs.Trials.{opaque}
-use Rattle.group_rules.specs.Group.{groupLimit}
 use Rattle.group_rules.specs.Tests.{groupStartNumber}
 use Rattle.group_claim.specs.Calls.{GroupCall, OfferAll, TakeOf, GroupRun, groupStep, groupBegun, offerNumber, offerRows, takeNumber, takeOut}
 
@@ -44,11 +43,11 @@ startsGiven =
     -- a plane of no lanes; a picture has four, whatever its plan says
     ∷ groupStartNumber (plane 1 ∷ plane 0 ∷ []) 2 0
     ∷ groupStartNumber (record { source = sizeOf 1 1; layout = Rgba8; crop = rectOf 0 0 1 1; target = sizeOf 1 1; kind = Picture; lanes = 0 } ∷ one ∷ []) 2 16
-    -- as many jobs as may be, and one too many; the numbers ahead of 14 do not look at that one
-    ∷ groupStartNumber (replicate (groupLimit + 1) one) groupLimit (8 * groupLimit)
-    ∷ groupStartNumber (replicate (groupLimit + 1) one) (groupLimit + 1) (8 * (groupLimit + 1))
-    ∷ groupStartNumber (replicate groupLimit one ++ (nothingHigh ∷ [])) (groupLimit + 1) (8 * (groupLimit + 1))
-    ∷ groupStartNumber (nothingHigh ∷ replicate groupLimit one) (groupLimit + 1) (8 * (groupLimit + 1))
+    -- six jobs, and a seventh; the numbers ahead of 14 do not look at that one
+    ∷ groupStartNumber (replicate 7 one) 6 48
+    ∷ groupStartNumber (replicate 7 one) 7 56
+    ∷ groupStartNumber (replicate 6 one ++ (nothingHigh ∷ [])) 7 56
+    ∷ groupStartNumber (replicate 5 one ++ (nothingHigh ∷ one ∷ [])) 7 56
     ∷ []
 
 abbrev pub startsSaid : List ℕ

@@ -16,9 +16,9 @@ use Rattle.job.specs.Record.{fresh, lawful}
 use Rattle.group_parts.specs.Parts.{offset}
 use Rattle.group_rules.specs.declared.Group.{Group}
 
--- the most jobs of a group: "A group holds up to eight jobs"
+-- the most jobs of a group: "A group holds up to six jobs"
 abbrev pub groupLimit : ℕ
-groupLimit = 8
+groupLimit = 6
 
 -- ---- the jobs of a group
 
@@ -105,7 +105,7 @@ alike p q =
 unfoldable pub differing : List Job → ℕ → Bool
 differing js n = eqb n 0 || some (λ i. not (alike (planAt js 0) (planAt js i))) n
 
--- "A ninth job", n being how many there are
+-- "A seventh job", n being how many there are
 abbrev pub tooMany : ℕ → Bool
 tooMany n = ltb groupLimit n
 
@@ -127,7 +127,7 @@ formedBy Plane p = planeOf (p .source) (p .lanes) (p .crop) (p .target)
 abbrev pub formed : Plan → Plan
 formed p = formedBy (p .kind) p
 
--- how many plans a start looks at, n being how many there are: "looking at the first eight only"
+-- how many plans a start looks at, n being how many there are: "looking at the first six only"
 abbrev pub looked : ℕ → ℕ
 looked n = min n groupLimit
 

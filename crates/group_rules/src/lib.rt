@@ -11,7 +11,7 @@ ghost use Rattle.group_rules.specs.Group.{spare, sameLayout, sameKind, a
 ghost use Rattle.group_rules.specs.Inner.{inStep};
 
 // The most jobs of a group.
-pub const GROUP_LIMIT: usize = 8;
+pub const GROUP_LIMIT: usize = 6;
 
 // The record: how many jobs, and theirs. What stands beyond the count says nothing.
 pub struct Group {
@@ -49,7 +49,7 @@ pub fn no_job() -> Job
     }
 }
 
-// How many of `count` jobs are looked at: none beyond the limit. Rules out: a ninth job looked at; seven of nine.
+// How many of `count` jobs are looked at: none beyond the limit. Rules out: one beyond it looked at; the last within it passed over.
 pub fn looked_at(count: u32) -> usize
     ensures { λ r. ⌜ r ≡ looked count ⌝ }
 {

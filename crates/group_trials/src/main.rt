@@ -150,16 +150,12 @@ fn short() {
     start_line(three(), 3, &mut work);
 }
 
-// as many jobs as there may be; one more; one more, the last of the others cropped beyond its source, which is ahead of 14
+// Six jobs; a seventh; a seventh, the sixth cropped beyond its source, which is ahead of 14
 fn many() {
     let mut work = [7u32; 128];
-    start_line(three(), GROUP_LIMIT as u32, &mut work);
-    start_line(three(), GROUP_LIMIT as u32 + 1, &mut work);
-    start_line(
-        with_last(plan(1, 0, 3, 6, 2, 2)),
-        GROUP_LIMIT as u32 + 1,
-        &mut work,
-    );
+    start_line(three(), 6, &mut work);
+    start_line(three(), 7, &mut work);
+    start_line(with_last(plan(1, 0, 3, 6, 2, 2)), 7, &mut work);
 }
 
 fn none() {

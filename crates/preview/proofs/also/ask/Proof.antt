@@ -1,11 +1,12 @@
 -- `ask` writes within its previews; the words left are the measure. Assumes nothing.
 use Prim.Native.Nat.{_-_, _≤_}
 use borrow.Author.Needs.{needs}
+use Rattle.group_rules.specs.Group.{groupLimit}
 use Rattle.preview.proofs.also.ask.Statement.{statement}
 use Rattle.preview.proofs.also.ask.Tie as tie
 
 abbrev Inv-loop : tie.InvT-loop
-Inv-loop words asked₀ i₀ k₀ asked i k = k ≤ 8
+Inv-loop words asked₀ i₀ k₀ asked i k = k ≤ groupLimit
 
 abbrev μ-loop : tie.MeasureT-loop
 μ-loop words asked₀ i₀ k₀ asked i k = (words .count) - i

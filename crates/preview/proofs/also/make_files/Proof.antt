@@ -1,14 +1,15 @@
 -- `make_files` writes within its files; the files left are the measure. Assumes nothing.
 use Prim.Native.Nat.{_-_, _≤_}
 use borrow.Author.Needs.{needs}
+use Rattle.group_rules.specs.Group.{groupLimit}
 use Rattle.preview.proofs.also.make_files.Statement.{statement}
 use Rattle.preview.proofs.also.make_files.Tie as tie
 
 abbrev Inv-loop : tie.InvT-loop
-Inv-loop asked files₀ k₀ files k = k ≤ 8
+Inv-loop asked files₀ k₀ files k = k ≤ groupLimit
 
 abbrev μ-loop : tie.MeasureT-loop
-μ-loop asked files₀ k₀ files k = 8 - k
+μ-loop asked files₀ k₀ files k = groupLimit - k
 
 standard-output-requires : tie.Need-standard-output-requires Inv-loop μ-loop
 standard-output-requires c κs = search needs

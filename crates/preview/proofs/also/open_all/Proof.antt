@@ -1,14 +1,15 @@
 -- `open_all` ends: the previews left are the measure. Assumes nothing.
 use Prim.Native.Nat.{_-_, _≤_}
 use borrow.Author.Needs.{needs}
+use Rattle.group_rules.specs.Group.{groupLimit}
 use Rattle.preview.proofs.also.open_all.Statement.{statement}
 use Rattle.preview.proofs.also.open_all.Tie as tie
 
 abbrev Inv-loop : tie.InvT-loop
-Inv-loop form group files k₀ k = k ≤ 8
+Inv-loop form group files k₀ k = k ≤ groupLimit
 
 abbrev μ-loop : tie.MeasureT-loop
-μ-loop form group files k₀ k = 8 - k
+μ-loop form group files k₀ k = groupLimit - k
 
 loop-holds : tie.Need-loop-holds Inv-loop μ-loop
 loop-holds c = search needs

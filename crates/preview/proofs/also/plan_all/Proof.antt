@@ -1,14 +1,15 @@
 -- `plan_all` writes within its plans; the plans left are the measure. Assumes nothing.
 use Prim.Native.Nat.{_-_, _≤_}
 use borrow.Author.Needs.{needs}
+use Rattle.group_rules.specs.Group.{groupLimit}
 use Rattle.preview.proofs.also.plan_all.Statement.{statement}
 use Rattle.preview.proofs.also.plan_all.Tie as tie
 
 abbrev Inv-loop : tie.InvT-loop
-Inv-loop source crop asked all₀ k₀ all k = k ≤ 8
+Inv-loop source crop asked all₀ k₀ all k = k ≤ groupLimit
 
 abbrev μ-loop : tie.MeasureT-loop
-μ-loop source crop asked all₀ k₀ all k = 8 - k
+μ-loop source crop asked all₀ k₀ all k = groupLimit - k
 
 picture-requires : tie.Need-picture-requires Inv-loop μ-loop
 picture-requires c κs = search needs

@@ -3,14 +3,15 @@ use Prim.Native.Nat.{_-_, _≤_}
 use mathlib.Core.Path.{_≡_}
 use lib.ListN.{length}
 use borrow.Author.Needs.{needs}
+use Rattle.group_rules.specs.Group.{groupLimit}
 use Rattle.preview.proofs.also.take_all.Statement.{statement}
 use Rattle.preview.proofs.also.take_all.Tie as tie
 
 abbrev Inv-loop : tie.InvT-loop
-Inv-loop out₀ work₀ files run₀ k₀ out work run k = (k ≤ 8) × (length out ≡ length out₀) × (length work ≡ length work₀)
+Inv-loop out₀ work₀ files run₀ k₀ out work run k = (k ≤ groupLimit) × (length out ≡ length out₀) × (length work ≡ length work₀)
 
 abbrev μ-loop : tie.MeasureT-loop
-μ-loop out₀ work₀ files run₀ k₀ out work run k = 8 - k
+μ-loop out₀ work₀ files run₀ k₀ out work run k = groupLimit - k
 
 loop-holds : tie.Need-loop-holds Inv-loop μ-loop
 loop-holds c = search needs
