@@ -127,6 +127,11 @@ fn scaled_lanes(s: &Sizes, part: &[u8]) -> (Vec<u8>, Vec<u32>) {
     (dst, [first, second].concat())
 }
 
+/// Whether a scaled colour of a picture stands above its alpha, so that the original does not judge it (spill.rs).
+pub fn some_above(s: &Sizes, source: &[u8]) -> bool {
+    scaled_lanes(s, &window(s, source)).0.as_chunks::<4>().0.iter().any(spill::above)
+}
+
 /// Whether the newest of u rows stands in the first half: the height grows and crop row u - 1 is odd (with no row yet, row 0 is to
 /// go to the second half).
 fn newer_is_first(s: &Sizes, u: u32) -> bool {
