@@ -318,9 +318,9 @@ def whole_line(layout, w, h, tw, th, pattern, seed):
     return f"resize {layout} {w} {h} {tw} {th} {4 * w * h} {4 * tw * th} {8 * tw} {pattern} {seed}"
 
 
-#: The smallest picture (docs/DIFFERENCES.md), and its pixel by the rule, by the Rust's and by libwebp's.
-SMALLEST = whole_line(0, 1, 1031, 16384, 1, 10, pixel_of(0, 0, 0, 2, 255))
-SMALLEST_PIXEL = {model.restore: "0000ff01", spilled: "0001fe01", wrapped: "0000fe01"}
+#: The example of docs/DIFFERENCES.md, and its pixel by the rule, by the Rust's and by libwebp's.
+EXAMPLE = whole_line(0, 1, 1031, 16384, 1, 10, pixel_of(0, 0, 0, 2, 255))
+EXAMPLE_PIXEL = {model.restore: "0000ff01", spilled: "0001fe01", wrapped: "0000fe01"}
 
 
 def wide():
@@ -345,7 +345,7 @@ def strips():
 def all_jobs():
     """Those of planes restored, all pairs first, and those of real pictures."""
     rng = random.Random(7)
-    return [*all_pairs(rng), *restored_planes(rng, 500), *other_lanes(rng, 200)], [SMALLEST, *wide(), *strips()]
+    return [*all_pairs(rng), *restored_planes(rng, 500), *other_lanes(rng, 200)], [EXAMPLE, *wide(), *strips()]
 
 
 # ---- The comparison
@@ -370,13 +370,18 @@ def main():
     expected = [answer(job, rule) for job in jobs[:3]]
     if rule.pixels != 3 * sum(255 - alpha for alpha in range(1, 255)):
         fail("not every colour stood above every lower alpha, once in each layout")
-    expected += [answer(job, rule) for job in jobs[3:]]
+    expected += [answer(job, rule) for job in planes[3:]]
+    of_planes = rule.jobs
+    expected += [answer(job, rule) for job in pictures]
+    if rule.jobs < of_planes + len(pictures) // 2:
+        fail("not even half of the pictures have a colour above an alpha that is not 0")
     wrong = differing(answers, expected)
     for i in sorted(wrong, key=lambda i: len(jobs[i]))[:5]:
         print(f"  job     {jobs[i][:300]}\n  model   {expected[i][:300]}\n  library {answers[i][:300]}", file=sys.stderr)
     if wrong:
         fail(f"{len(wrong)} of {len(jobs)} jobs differ")
-    print(f"spill-model: {len(jobs)} jobs as the model says; in {rule.jobs} of them, {rule.rows} rows, {rule.pixels} pixels, a colour is above an alpha that is not 0")
+    print(f"spill-model: {len(jobs)} jobs as the model says; in {rule.jobs} of them ({rule.jobs - of_planes} pictures whose sums wrap), {rule.rows} rows, {rule.pixels} pixels, "
+          "a colour is above an alpha that is not 0")
 
     # It can say no: the restores of the Rust and of libwebp are found, and so is one altered answer.
     found = []
@@ -385,9 +390,9 @@ def main():
         if not count:
             fail(f"{name} restore was not found")
         found.append(f"{name} in {count}")
-    for restored, pixel in SMALLEST_PIXEL.items():
-        if answer(SMALLEST, Rule(restored)).split()[2] != 16384 * pixel:
-            fail(f"the smallest picture is not {pixel}")
+    for restored, pixel in EXAMPLE_PIXEL.items():
+        if answer(EXAMPLE, Rule(restored)).split()[2] != 16384 * pixel:
+            fail(f"the example is not {pixel}")
     answers[len(jobs) // 2] += "0"
     if len(differing(answers, expected)) != 1:
         fail("an altered answer was not found")
