@@ -637,7 +637,7 @@ static void column_made_wide(uint32_t h, uint8_t blue, uint8_t alpha) {
 
 /* A restored colour stops at 255 in its own lane, so that every alpha is the scaled one, and the flag that of the scaled alphas. */
 static void no_spill(void) {
-    /* 1,031 rows are the smallest picture with a scaled colour above its alpha, 2 above 1: the sum of alpha wraps from 1,029 on, and up to 1,030 the rest makes 0 */
+    /* 1,031 rows are the fewest with a scaled colour above an alpha that is not 0, 2 above 1: the sum of alpha wraps from 1,029 on, and up to 1,030 the rest makes 0 */
     column_made_wide(1028, 2, 255);
     column_made_wide(1030, 0, 0);
     column_made_wide(1031, 255, 1);

@@ -644,7 +644,7 @@ fn forged(s: &Sizes, r: &mut Random) -> Job {
 /// The jobs of `spills` that are not made at random.
 const SPILLS: u64 = 5;
 
-/// The smallest picture that has such a colour (docs/DIFFERENCES.md), whole and by rows; then planes of four lanes whose rows are taken as a picture's, first with
+/// The example of docs/DIFFERENCES.md, whole and by rows; then planes of four lanes whose rows are taken as a picture's, first with
 /// all pairs of an alpha and a colour, in each layout.
 fn spills(i: u64, r: &mut Random) -> Job {
     if i < 2 {

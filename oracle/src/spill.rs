@@ -1,5 +1,5 @@
-//! The corner that request 7 changed: rows in which a scaled colour stands above its alpha, so that the restored colour passes 255. The original's runs into
-//! the next lane there and libwebp's wraps in its own; ours stops at 255. This judges the port's bytes in their place: request 7's restore, lane by lane, of the
+//! The corner that request 7 changed: rows in which a scaled colour stands above its alpha. Restored under an alpha of 1 to 254 it passes 255: the original's runs
+//! into the next lane there and libwebp's wraps in its own; ours stops at 255. This judges the port's bytes in their place: request 7's restore, lane by lane, of the
 //! lanes that the original's Rescaler makes.
 
 /// The rows handed out in the corner, whose bytes and flags are not the original's, and in how many of them its restore gives others.

@@ -318,8 +318,8 @@ impl Image {
     /// ```
     ///
     /// Where sums wrap at extreme sizes, the picture is wrong, and a scaled colour can stand above its alpha. Restored, it runs into the next lane there, red
-    /// into alpha; here it stops at 255 in its own, and alpha is the scaled one. It takes 255 × span × height of at least 2^32 × target height, where span is the
-    /// width, or the target's less one if that is wider:
+    /// into alpha; here it stops at 255 in its own, and alpha is the scaled one. It takes span × height above 4,194,304 × target height, where span is the width,
+    /// or the target's less one if that is wider:
     ///
     /// ```
     /// use jonquilsaw::{Dimensions, Image, PixelLayout};

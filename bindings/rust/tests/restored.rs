@@ -35,10 +35,10 @@ fn by_rows(source: Dimensions, layout: PixelLayout, target: Dimensions, picture:
     (rows, job.has_alpha())
 }
 
-/// Opaque blue 2, one column made the widest row. The sum of alpha wraps from 1,029 rows on; up to 1,030 the rest makes 0, and of 1,031 it makes 1: the smallest
-/// picture with a scaled colour above its alpha.
+/// Opaque blue 2, one column made the widest row. The sum of alpha wraps from 1,029 rows on; up to 1,030 the rest makes 0, and of 1,031 it makes 1: the fewest
+/// rows with a scaled colour above an alpha that is not 0.
 #[test]
-fn the_smallest_picture_with_a_colour_above_its_alpha() {
+fn the_fewest_rows_with_a_colour_above_its_alpha() {
     let target = size(16384, 1);
     for (height, made, flag) in [(1028, 0xff00_0002, false), (1030, 0, true), (1031, 0x0100_00ff, true)] {
         let source = size(1, height);
