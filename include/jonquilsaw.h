@@ -1,7 +1,8 @@
 /* Jonquilsaw: a scaler of pictures and planes that takes source rows as they arrive and hands out
  * preview rows as they become ready. It allocates nothing: every buffer is lent by the caller. The
  * bytes are those of webpkit's rescaler, except that a crop one pixel wide which is made taller does
- * not become 0; docs/DIFFERENCES.md says so, and where libwebp's bytes are others.
+ * not become 0, and that a restored colour stops at 255 in its own lane, where webpkit's runs into
+ * the next; docs/DIFFERENCES.md says so, and where libwebp's bytes are others.
  *
  * Every function returns 0 where the call was accepted and else a number that says why not: see
  * jonquilsaw_number. A refused call leaves every buffer as it was.
@@ -27,9 +28,9 @@ extern "C" {
 #endif
 
 #define JONQUILSAW_VERSION_MAJOR 0
-#define JONQUILSAW_VERSION_MINOR 7
+#define JONQUILSAW_VERSION_MINOR 8
 #define JONQUILSAW_VERSION_PATCH 0
-#define JONQUILSAW_VERSION "0.7.0"
+#define JONQUILSAW_VERSION "0.8.0"
 
 /* The largest side of a picture or a plane. */
 #define JONQUILSAW_MAX_SIDE 16384u

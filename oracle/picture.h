@@ -46,6 +46,10 @@ static inline uint32_t step(uint32_t s) { return s * 1664525u + 1013904223u; }
 
 static inline void make_bytes(int layout, uint32_t pattern, uint32_t seed, uint8_t* out, size_t len) {
   const size_t place = layout == 1 ? 0 : 3;
+  if (pattern == 10) {
+    for (size_t j = 0; j < len; ++j) out[j] = (uint8_t)(seed >> 8 * (j % 4));
+    return;
+  }
   for (size_t j = 0; j < len; ++j) out[j] = value(pattern, j % 4 == place, (uint32_t)(j / 4), seed = step(seed));
 }
 

@@ -1,5 +1,5 @@
-/* Calls every function of include/jonquilsaw.h: the trials of docs/SCOPE.md, planes against its formulas, PAM pictures, groups against their jobs alone, each refusal in its
- * order, and that a refused call leaves every buffer as it was.
+/* Calls every function of include/jonquilsaw.h: the trials of docs/SCOPE.md, planes and restored pixels against its formulas, PAM pictures, groups against their jobs
+ * alone, each refusal in its order, and that a refused call leaves every buffer as it was.
  * Every buffer is lent with a page behind it that cannot be touched, since the sanitizers look at this file only. Prints one line. */
 #define _DEFAULT_SOURCE
 #include "jonquilsaw.h"
@@ -553,11 +553,11 @@ static void planes_of_lanes(void) {
     plane(&six, 1);
 }
 
-/* A colour matted by its alpha, or restored: mult_argb of docs/SCOPE.md for one lane. One column made taller brings no colour above its alpha. */
+/* A colour matted by its alpha, or restored, which stops at 255: mult_argb of docs/SCOPE.md for one lane. */
 static uint8_t by_alpha(uint64_t colour, uint64_t alpha, int restored) {
     if (alpha == 0 || alpha == 255) return (uint8_t)(alpha == 0 ? 0 : colour);
-    const uint64_t k = restored ? ((uint64_t)255 << 24) / alpha : 65793 * alpha;
-    return (uint8_t)((colour * k + (1 << 23)) >> 24);
+    const uint64_t k = restored ? ((uint64_t)255 << 24) / alpha : 65793 * alpha, byte = (colour * k + (1 << 23)) >> 24;
+    return (uint8_t)(byte > 255 ? 255 : byte);
 }
 
 /* One column of a picture made taller: matted, scaled by the formulas, restored; whole and by rows. */
@@ -594,6 +594,90 @@ static void columns_of_pictures(void) {
         column_of(i % 3, h, 1 + i / 24 % 2, h + 1 + i / 48);
     }
     for (uint32_t layout = 0; layout < 3; layout++) column_of(layout, 16383, 2, 16384);
+}
+
+/* Restores a row of n scaled pixels, blue, green, red and alpha each, and returns its flag. A plane in equal size keeps its bytes: offered as one of four lanes,
+ * they are what a take restores once the record says picture. The record of a group of one is that of its job behind one word, so that either take will do. */
+static uint32_t restore(const uint8_t *scaled, uint32_t n, uint32_t layout, int in_group, uint8_t *out) {
+    const uint32_t plan[JONQUILSAW_PLAN_WORDS] = {n, 1, 0, 0, 0, n, 1, n, 1, JONQUILSAW_PLANE, 4};
+    const size_t need = JONQUILSAW_WORK_WORDS(n), bytes = (size_t)4 * n;
+    uint32_t *work = words_of(need, 7), *group = words_of(15, 0), *record = group + 1, count = 0;
+    EXPECT(jonquilsaw_start_group(plan, JONQUILSAW_PLAN_WORDS, 1, work, need, group, 15) == 0);
+    EXPECT(jonquilsaw_offer(record, 14, scaled, bytes, work, need, &count, 1) == 0);
+    record[2] = layout;
+    record[12] = JONQUILSAW_PICTURE;
+    EXPECT((in_group ? jonquilsaw_take_group(group, 15, 0, out, bytes, work, need) : jonquilsaw_take(record, 14, out, bytes, work, need)) == 0);
+    const uint32_t flag = record[11];
+    give_back(work, 4 * need);
+    give_back(group, 60);
+    return flag;
+}
+
+/* Rgba (0, 0, 2, 255), 1 by h to 16384 by 1: every pixel has this blue and this alpha, in all three layouts, whole and by rows. */
+static void column_made_wide(uint32_t h, uint8_t blue, uint8_t alpha) {
+    const size_t n = (size_t)4 * h, o = (size_t)4 * 16384, v = JONQUILSAW_WORK_WORDS(16384);
+    uint8_t *pixels = bytes_of(n, 0), *want = bytes_of(o, 0), *out = bytes_of(o, 1), *again = bytes_of(o, 2);
+    uint32_t *work = words_of(v, 3), flag, flag_again;
+    for (uint32_t layout = 0; layout < 3; layout++) {
+        for (size_t i = 0; i < n; i += 4) put(pixels + i, layout, 0, 0, 2, 255);
+        for (size_t i = 0; i < o; i += 4) put(want + i, layout, 0, 0, blue, alpha);
+        flag = flag_again = 9;
+        EXPECT(jonquilsaw_resize(1, h, layout, 16384, 1, pixels, n, out, o, work, v, &flag, 1) == 0);
+        EXPECT(memcmp(out, want, o) == 0);
+        by_job(1, h, layout, 16384, 1, pixels, again, work, &flag_again);
+        EXPECT(memcmp(again, want, o) == 0);
+        EXPECT(flag == (alpha != 255) && flag_again == flag);
+    }
+    give_back(pixels, n);
+    give_back(want, o);
+    give_back(out, o);
+    give_back(again, o);
+    give_back(work, 4 * v);
+}
+
+/* A restored colour stops at 255 in its own lane, so that every alpha is the scaled one, and the flag that of the scaled alphas. */
+static void no_spill(void) {
+    /* 1,031 rows are the fewest with a scaled colour above an alpha that is not 0, 2 above 1: the sum of alpha wraps from 1,029 on, and up to 1,030 the rest makes 0 */
+    column_made_wide(1028, 2, 255);
+    column_made_wide(1030, 0, 0);
+    column_made_wide(1031, 255, 1);
+
+    /* each lane above its alpha; red that would make the alpha 255, alone and beside an opaque pixel; all three at once; the alphas 0 and 255, under which nothing
+     * is restored. Numbers are 0xAARRGGBB */
+    const struct {
+        uint32_t scaled[2], restored[2], flag;
+    } some[] = {
+        {{0x01000002, 0x01000002}, {0x010000ff, 0x010000ff}, 1},
+        {{0x01000200, 0x01020000}, {0x0100ff00, 0x01ff0000}, 1},
+        {{0x01ff0000, 0x01ff0000}, {0x01ff0000, 0x01ff0000}, 1},
+        {{0xff123456, 0x01ff0000}, {0xff123456, 0x01ff0000}, 1},
+        {{0x02010301, 0x7f80ffff}, {0x0280ff80, 0x7fffffff}, 1},
+        {{0x00ffffff, 0xffffffff}, {0x00000000, 0xffffffff}, 1},
+        {{0xff00ff00, 0xffff00ff}, {0xff00ff00, 0xffff00ff}, 0},
+    };
+    uint8_t *scaled = bytes_of(4 * 256, 0), *out = bytes_of(4 * 256, 0), *want = bytes_of(4 * 256, 0), *two = bytes_of(8, 0), *two_out = bytes_of(8, 0);
+    for (uint32_t i = 0; i < 6 * (sizeof some / sizeof *some); i++) {
+        const uint32_t layout = i % 3;
+        const int in_group = i / 3 % 2;
+        uint32_t argb[2] = {0, 0};
+        EXPECT(jonquilsaw_pack_pixels(JONQUILSAW_BGRA8, some[i / 6].scaled, 2, two, 8) == 0);
+        EXPECT(restore(two, 2, layout, in_group, two_out) == some[i / 6].flag);
+        EXPECT(jonquilsaw_unpack_pixels(layout, two_out, 8, argb, 2) == 0 && memcmp(argb, some[i / 6].restored, 8) == 0);
+    }
+
+    /* every colour under every alpha in each lane, with 0 in the other two or the colour's rest to 255 */
+    for (uint32_t i = 0; i < 256 * 3 * 2 * 3; i++) {
+        const uint32_t alpha = i % 256, lane = i / 256 % 3, rest = i / 256 / 3 % 2, layout = i / 256 / 6;
+        for (uint32_t c = 0; c < 256; c++) {
+            uint8_t *pixel = scaled + 4 * c;
+            pixel[0] = pixel[1] = pixel[2] = (uint8_t)(rest ? 255 - c : 0);
+            pixel[lane] = (uint8_t)c;
+            pixel[3] = (uint8_t)alpha;
+            put(want + 4 * c, layout, by_alpha(pixel[2], alpha, 1), by_alpha(pixel[1], alpha, 1), by_alpha(pixel[0], alpha, 1), (uint8_t)alpha);
+        }
+        EXPECT(restore(scaled, 256, layout, 0, out) == (alpha != 255));
+        EXPECT(memcmp(out, want, 4 * 256) == 0);
+    }
 }
 
 /* A plane of four lanes is no picture: nothing is matted or restored. Where a picture's alpha is 255, in and out, both are the same. */
@@ -1354,6 +1438,7 @@ int main(void) {
     with_types();
     planes();
     columns_of_pictures();
+    no_spill();
     pam();
     groups();
     printf("c: %lu checks, %lu failed\n", checks, failures);

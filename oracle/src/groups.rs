@@ -1,6 +1,6 @@
 //! Makes groups of jobs: over one source, rows cut at random, takes of random jobs; and starts, calls and records that are wrong.
 use crate::job::{Call, FLAG, GROUP_LIMIT, Job, K, KIND, LANES, LAYOUT, PICTURE, PLANE, Pixels, Record, Sizes, T, group_words};
-use crate::jobs::{Random, any_plane, crop_at_edge, full, side};
+use crate::jobs::{Random, any_plane, crop_at_edge, full, side, taken_as_pictures};
 use crate::picture::fill_words;
 use crate::table;
 
@@ -78,6 +78,18 @@ pub fn wrong(i: u64, r: &mut Random) -> Job {
         plans.push(Sizes { w: 0, ..source });
     }
     started(count, plans, 4, r)
+}
+
+/// A group of planes of four lanes, whose rows are taken as pictures' (jobs::taken_as_pictures).
+pub fn spilling(px: Pixels, layout: u32, stays: bool, r: &mut Random) -> Job {
+    let source = Sizes { layout: 0, kind: PLANE, lanes: 4, ..source(r) };
+    let count = r.within(1, GROUP_LIMIT as u32);
+    let plans = plans(&source, count as usize, r);
+    let mut run = Run { px, ..Run::new(&plans, r) };
+    run.go(0, r);
+    let records: Vec<usize> = (0..plans.len()).map(group_words).collect();
+    run.list = taken_as_pictures(&run.list, &records, layout, stays);
+    run.job(count, plans)
 }
 
 /// A start that is accepted, and calls, of which one in `bad` is wrong (none if 0).

@@ -277,7 +277,7 @@ impl Job {
         matches!(self, Job::Rows { sizes: Sizes { kind: PLANE, .. }, .. } | Job::Three { .. })
     }
 
-    /// Whether a sum may wrap: 255 × span × h is at least 2^32 × g. There libwebp's restore is another.
+    /// Whether 255 × span × h is at least 2^32 × g: sums may wrap so far that libwebp's restore is another.
     pub fn may_wrap(&self) -> bool {
         let (n, h, m, g) = match self {
             Job::Resize { w, h, tw, th, .. } | Job::Three { w, h, tw, th, .. } => (*w, *h, *tw, *th),

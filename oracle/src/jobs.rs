@@ -1,6 +1,6 @@
 //! Makes jobs: exhaustively for small sides, at random around every boundary. The same seed makes the same jobs.
-use crate::job::{Call, FLAG, Job, K, KIND, LANES, LAYOUT, PLANE, Pixels, Record, Sizes, T, planes};
-use crate::picture::PATTERNS;
+use crate::job::{Call, FLAG, Job, K, KIND, LANES, LAYOUT, PICTURE, PLANE, Pixels, Record, Sizes, T, planes};
+use crate::picture::{ONE_PIXEL, PATTERNS};
 use crate::{groups, table};
 
 /// splitmix64.
@@ -33,7 +33,7 @@ impl Random {
 }
 
 /// The sets of jobs, and how many of each a gate's run and a long run have; of pictures, of planes, then of groups.
-pub const SETS: [(&str, u64, u64); 27] = [
+pub const SETS: [(&str, u64, u64); 28] = [
     ("small", 12288, 80 * 12288),
     ("small-rows", 12288, 80 * 12288),
     ("edges", 3000, 60_000),
@@ -48,6 +48,7 @@ pub const SETS: [(&str, u64, u64); 27] = [
     ("wraps", 16, 300),
     ("strips", 6, 30),
     ("dividers", DIVIDERS + 1200, DIVIDERS + 100_000),
+    ("spills", SPILLS + 1200, SPILLS + 100_000),
     ("lanes-small", 4096, 80 * 4096),
     ("lanes-edges", 800, 8000),
     ("lanes-crops", 1000, 100_000),
@@ -91,6 +92,7 @@ pub fn make(set: &str, i: u64, r: &mut Random) -> Job {
         "wraps" => wraps(r),
         "strips" => strips(i, r),
         "dividers" => dividers(i, r),
+        "spills" => spills(i, r),
         "lanes-small" => rows(&small_plane(i), 0, r),
         "lanes-edges" => {
             let sizes = edges(r, false);
@@ -480,25 +482,27 @@ fn wrapping(r: &mut Random) -> (Sizes, Pixels) {
 
 fn wraps(r: &mut Random) -> Job {
     let (s, px) = wrapping(r);
-    if r.one_in(2) {
-        return whole_with(&s, px, 0);
-    }
+    if r.one_in(2) { whole_with(&s, px, 0) } else { at_once(&s, px) }
+}
+
+/// By rows, with as few offers as there can be.
+fn at_once(s: &Sizes, px: Pixels) -> Job {
     let (row, out, work) = (s.row(s.w), s.row(s.tw), s.need());
     let mut calls = Vec::new();
     let (mut k, mut t) = (0, 0);
     while t < s.th {
-        if table::made(&s, k) > t {
+        if table::made(s, k) > t {
             calls.push(Call::Take { out, work });
             t += 1;
         } else {
             let n = s.h - k;
             calls.push(Call::Offer { from: k as usize * row, len: n as usize * row, work });
-            while k < s.h && table::made(&s, k) <= t {
+            while k < s.h && table::made(s, k) <= t {
                 k += 1;
             }
         }
     }
-    Job::Rows { sizes: s, work, px, calls }
+    Job::Rows { sizes: *s, work, px, calls }
 }
 
 /// The widest strips, around the height at which white sums wrap, and taller.
@@ -633,6 +637,61 @@ fn forged(s: &Sizes, r: &mut Random) -> Job {
     list.push(Call::Offer { from: 0, len: other.row(s.w), work });
     list.push(Call::Take { out: other.row(s.tw), work });
     Job::Rows { sizes: *s, work, px: r.pixels(), calls: list }
+}
+
+// ---- the corner that request 7 changed: a scaled colour above its alpha
+
+/// The jobs of `spills` that are not made at random.
+const SPILLS: u64 = 5;
+
+/// The example of docs/DIFFERENCES.md, whole and by rows; then planes of four lanes whose rows are taken as a picture's, first with
+/// all pairs of an alpha and a colour, in each layout.
+fn spills(i: u64, r: &mut Random) -> Job {
+    if i < 2 {
+        let (s, px) = (full(0, 1, 1031, 16384, 1), Pixels { pattern: ONE_PIXEL, seed: u32::from_le_bytes([0, 0, 2, 255]) });
+        return if i == 0 { whole_with(&s, px, 0) } else { at_once(&s, px) };
+    }
+    if i < SPILLS {
+        let (s, px) = (plane_of(full(0, 256, 256, 256, 256), 4), Pixels { pattern: 8, seed: 0 });
+        let work = s.need();
+        let calls = taken_as_pictures(&calls_of(&s, work, 0, r), &[0], i as u32 - 2, false);
+        return Job::Rows { sizes: s, work, px, calls };
+    }
+    // Patterns with an alpha below 255.
+    let px = Pixels { pattern: r.of(&[0, 2, 3, 5, 7, 8]), seed: r.next() as u32 };
+    let layout = r.below(3);
+    let stays = r.one_in(4);
+    let s = match r.below(8) {
+        0 | 1 => return groups::spilling(px, layout, stays, r),
+        2 => any_divider(r),
+        3 => calls(r),
+        _ => crops(r),
+    };
+    let s = plane_of(s, 4);
+    let work = s.need() + r.below(4) as usize;
+    let calls = taken_as_pictures(&calls_of(&s, work, 0, r), &[0], layout, stays);
+    Job::Rows { sizes: s, work, px, calls }
+}
+
+/// The calls of planes of four lanes, whose records, starting at these words, are a picture's for takes: what came in unmatted is restored, so that any colour
+/// may stand above its alpha. For offers they are a plane's again, if they do not stay a picture's.
+pub fn taken_as_pictures(calls: &[Call], records: &[usize], layout: u32, stays: bool) -> Vec<Call> {
+    let mut list = Vec::new();
+    let mut picture = false;
+    for &call in calls {
+        let wanted = match call {
+            Call::Take { .. } => true,
+            Call::Offer { .. } => picture && stays,
+            _ => picture,
+        };
+        if wanted != picture {
+            picture = wanted;
+            let form = if picture { [(KIND, PICTURE), (LAYOUT, layout), (FLAG, 0)] } else { [(KIND, PLANE), (LAYOUT, 0), (FLAG, 0)] };
+            list.extend(records.iter().flat_map(|at| form.map(|(field, value)| Call::Set { field: at + field, value })));
+        }
+        list.push(call);
+    }
+    list
 }
 
 // ---- planes

@@ -3,9 +3,11 @@
 //! The original judges everywhere. libwebp's pictures must agree where no sum can wrap; elsewhere its differences are counted,
 //! and each must be the one that its 32-bit restore explains. Its rescaler in plain C is asked for planes, which nobody restores,
 //! and must agree everywhere. Where the height grows and span is 1 the original and libwebp give 0 and the port does not: its bytes and
-//! flags there are left out of what the original judges, divider.rs judges them, and the run says how many.
+//! flags there are left out of what the original judges, divider.rs judges them, and the run says how many. So it is with rows in which a scaled
+//! colour stands above its alpha, which spill.rs judges.
 use crate::divider::Corner;
 use crate::job::Job;
+use crate::spill::Spill;
 use crate::{jobs, original};
 use std::collections::BTreeMap;
 use std::io::{BufRead, BufReader, BufWriter, Write};
@@ -186,19 +188,22 @@ pub fn run(sets: &[(&str, u64)], seed: u64, commands: Commands) -> bool {
     let drivers: Vec<_> = sides.iter().filter_map(|&(side, command)| Some(Driver::start(side, command?))).collect();
     let (mut total, mut own) = (0, 0);
     let (mut left_out, mut corner) = (0, Corner::NONE);
+    let (mut spilling, mut spill) = (0, Spill::default());
     let begun = Instant::now();
     for &(set, count) in sets {
         let since = Instant::now();
         let mut random = jobs::Random(seed);
         random.0 = random.next() ^ set.bytes().fold(0, |h: u64, b| h.wrapping_mul(31).wrapping_add(u64::from(b)));
         let mut numbers = [0u64; NUMBERS];
-        let mut in_corner = 0;
+        let (mut in_corner, mut in_spill) = (0, 0);
         for i in 0..count {
             let job = jobs::make(set, i, &mut random);
             let (line, told) = (job.to_string(), original::answer(&job));
             let (answer, libwebp) = (told.line, told.libwebp);
             in_corner += u64::from(told.corner.rows > 0);
             corner.add(told.corner);
+            in_spill += u64::from(told.spill.rows > 0);
+            spill.add(told.spill);
             if answer.starts_with('!') {
                 own += 1;
                 println!("original: {}\n  {answer}", cut(&line));
@@ -213,8 +218,12 @@ pub fn run(sets: &[(&str, u64)], seed: u64, commands: Commands) -> bool {
         }
         total += count;
         left_out += in_corner;
+        spilling += in_spill;
         let seconds = since.elapsed().as_secs_f64();
-        println!("{set:>14} {count:>8} jobs {seconds:>6.1} s  left out in {in_corner:>5}  calls by number 0 to {}: {numbers:?}", NUMBERS - 1);
+        println!(
+            "{set:>14} {count:>8} jobs {seconds:>6.1} s  left out in {in_corner:>5} for span 1, {in_spill:>5} for a colour  calls by number 0 to {}: {numbers:?}",
+            NUMBERS - 1
+        );
     }
     let (part, of) = corner.worst;
     println!(
@@ -225,8 +234,17 @@ pub fn run(sets: &[(&str, u64)], seed: u64, commands: Commands) -> bool {
         "divider.rs judges these, at the worst {:.6} of a level off the exact mean; all else of these jobs is judged by the original",
         part as f64 / of as f64
     );
+    println!(
+        "left out, for a scaled colour is above its alpha: the bytes and flags of {} rows of {spilling} jobs; in {} of them the original's are others",
+        spill.rows, spill.others
+    );
+    println!("spill.rs judges these; all else of these jobs is judged by the original");
+    let shown = spill.others > 0 || sets.iter().all(|set| set.0 != "spills");
+    if !shown {
+        println!("the set spills has no row in which the original's restore gives other bytes");
+    }
     // Half a level is what rounding to the nearest may cost.
-    let mut agree = own == 0 && 2 * part <= of;
+    let mut agree = own == 0 && shown && 2 * part <= of;
     for (side, c) in drivers.into_iter().map(Driver::finish) {
         let name = side.name();
         agree &= c.differ == 0 && (c.asked > 0 || c.sent == 0);

@@ -5,11 +5,12 @@
 //! Kind 0: crop then resize, by rows. Kind 1: scaled (flag and check are the answer's width and height). Kind 2: crop.
 //! Kind 3: apply_alpha_plane. `number` is SCOPE's; a refused call has flag and check 0. `check` is FNV-1a of 32 bits over
 //! the answer's bytes. Every answer is the original's. None is of a height that grows with span 1, where the original gives 0 and the port
-//! does not (divider.rs): what would be one is 3 wide.
+//! does not (divider.rs): what would be one is 3 wide. None has a scaled colour above its alpha, where the original spills and the port does not (spill.rs):
+//! `oracle list` stops at such an entry.
 use crate::image::{Dimensions, Image};
 use crate::job::{Pixels, Sizes};
 use crate::jobs::Random;
-use crate::original::{cropped, layout};
+use crate::original::{cropped, layout, some_above};
 use crate::picture::{FNV32, PATTERNS, bytes, fnv32, plane};
 use crate::table;
 use std::fmt::Write;
@@ -57,6 +58,7 @@ impl List {
         self.seeds += 1;
         let px = Pixels { pattern, seed: self.seeds };
         let (number, flag, check) = ask(kind, &s, px);
+        assert!(kind != 0 || number != 0 || !some_above(&s, &source(&s, px)), "a scaled colour is above its alpha: {s:?} {px:?}");
         self.entries += 1;
         write!(self.text, "{kind} {} {} {} {} {} {} {} {} {}", s.layout, s.w, s.h, s.x, s.y, s.cw, s.ch, s.tw, s.th).unwrap();
         writeln!(self.text, " {pattern} {} {number} {flag} {check}", self.seeds).unwrap();
@@ -123,9 +125,9 @@ pub fn make() -> String {
     for (from, to, pattern) in [
         ((1, 1028), (16384, 1), 6),
         ((1, 1029), (16384, 1), 6),
-        ((1, 1031), (16384, 1), 9),
+        ((1, 1031), (16384, 1), 6),
         ((2, 2060), (16384, 2), 0),
-        ((3, 1500), (12000, 1), 4),
+        ((3, 1500), (12000, 1), 6),
         ((16384, 257), (1, 1), 6),
         ((16384, 1028), (1, 1), 6),
         ((16384, 1029), (1, 1), 6),

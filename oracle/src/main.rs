@@ -14,6 +14,7 @@ mod list;
 mod original;
 mod picture;
 mod prelude;
+mod spill;
 mod table;
 
 include!(concat!(env!("OUT_DIR"), "/original.rs"));

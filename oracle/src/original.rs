@@ -4,7 +4,8 @@
 //! from the record and the work values before each row, and each row taken is held against the public crop and resize; of a
 //! plane, which the original has no public function for, against its private rescale_plane.
 //! Where the height grows and span is 1 the original gives 0, which is seen to be so, and the bytes and flags are those of request 4: divider.rs's, to which
-//! the original's Rescaler with its factor counted as one must come, too. All else in such an answer is the original's.
+//! the original's Rescaler with its factor counted as one must come, too. All else in such an answer is the original's. So it is where a scaled colour stands
+//! above its alpha: the original's restore is seen to be its public function's, and the bytes and flags are those of request 7, by spill.rs.
 //! Numbers come from table.rs and are held against the original wherever it can be asked; a line that begins with `!`
 //! says that the original disagrees with itself or with the table, and the comparison fails.
 use crate::divider::{self, Corner};
@@ -13,6 +14,7 @@ use crate::image::{Dimensions, Image, PixelLayout, argb_has_alpha, pack_pixels, 
 use crate::job::{Call, FLAG, GROUP_LIMIT, Job, K, PLANE, Pixels, Record, Sizes, T, group_words, planes};
 use crate::picture::{bytes, fill_bytes, fill_words, fnv_words, hex, plane};
 use crate::probe::open::{Scaler, alpha_scale, mult_argb, rescale_plane};
+use crate::spill::{self, Spill};
 use crate::{error, table};
 use std::fmt::Write;
 
@@ -75,6 +77,27 @@ fn rust_restore(p: u32) -> u32 {
     mult_argb(p, true)
 }
 
+/// Request 7's restore.
+fn cut_restore(p: u32) -> u32 {
+    u32::from_le_bytes(spill::restored(p.to_le_bytes()))
+}
+
+/// What a row of a picture is to be, of its lanes and of the original's row: another one where a colour is above its alpha, and only in those pixels.
+fn without_spill(l: u32, row: &[u8], original: Vec<u8>, spill: &mut Spill) -> Result<Vec<u8>, String> {
+    let pixels = row.as_chunks::<4>().0;
+    if !pixels.iter().any(spill::above) {
+        return Ok(original);
+    }
+    let ours = restored(l, row, cut_restore);
+    let mut places = pixels.iter().zip(ours.chunks(4).zip(original.chunks(4)));
+    if places.any(|(pixel, (a, b))| !spill::above(pixel) && a != b) {
+        return Err("! no colour is above its alpha, and the original's restore is not request 7's".into());
+    }
+    spill.rows += 1;
+    spill.others += u64::from(ours != original);
+    Ok(ours)
+}
+
 /// libwebp's restore: the product is taken in 32 bits, so a colour above its alpha wraps in its own lane.
 fn c_restore(p: u32) -> u32 {
     let a = p >> 24;
@@ -102,6 +125,11 @@ fn scaled_lanes(s: &Sizes, part: &[u8]) -> (Vec<u8>, Vec<u32>) {
     let (irow, frow) = scaler.rows();
     let (first, second) = if newer_is_first(s, s.ch) { (&*frow, &*irow) } else { (&*irow, &*frow) };
     (dst, [first, second].concat())
+}
+
+/// Whether a scaled colour of a picture stands above its alpha, so that the original does not judge it (spill.rs).
+pub fn some_above(s: &Sizes, source: &[u8]) -> bool {
+    scaled_lanes(s, &window(s, source)).0.as_chunks::<4>().0.iter().any(spill::above)
 }
 
 /// Whether the newest of u rows stands in the first half: the height grows and crop row u - 1 is odd (with no row yet, row 0 is to
@@ -140,6 +168,7 @@ pub struct Told {
     pub line: String,
     pub libwebp: String,
     pub corner: Corner,
+    pub spill: Spill,
 }
 
 pub fn answer(job: &Job) -> Told {
@@ -147,7 +176,7 @@ pub fn answer(job: &Job) -> Told {
         Job::Rows { sizes, work, px, calls } => {
             let mut rows = Rows::new(sizes, *work, px, table::start(sizes, *work));
             let line = rows.run(calls).unwrap_or_else(|e| e);
-            Told { line, libwebp: rows.whole, corner: rows.corner }
+            Told { line, libwebp: rows.whole, corner: rows.corner, spill: rows.spill }
         }
         Job::Three { w, h, tw, th, work, px, calls } => {
             let number = table::three((*w, *h, *tw, *th), work);
@@ -156,16 +185,14 @@ pub fn answer(job: &Job) -> Told {
             let mut rows = (0..3).map(|i| Rows::new(&planes(*w, *h, *tw, *th)[i], work[i], &seed(i as u32), number));
             let mut three = Three { rows: [rows.next().unwrap(), rows.next().unwrap(), rows.next().unwrap()] };
             let line = three.run(calls).unwrap_or_else(|e| e);
-            let mut corner = Corner::NONE;
-            three.rows.iter().for_each(|r| corner.add(r.corner));
-            Told { line, libwebp: three.rows.map(|r| r.whole).join(" "), corner }
+            let (corner, spill) = left_out(&three.rows);
+            Told { line, libwebp: three.rows.map(|r| r.whole).join(" "), corner, spill }
         }
         Job::Group { count, plans, record, work, px, calls } => {
             let mut group = Group::new(*count, plans, *record, *work, px);
             let line = group.run(calls).unwrap_or_else(|e| e);
-            let mut corner = Corner::NONE;
-            group.jobs.iter().for_each(|r| corner.add(r.corner));
-            Told { line, libwebp: String::new(), corner }
+            let (corner, spill) = left_out(&group.jobs);
+            Told { line, libwebp: String::new(), corner, spill }
         }
         Job::Resize { layout, w, h, tw, th, pixels, out, work, px } => {
             let s = Sizes { layout: *layout, w: *w, h: *h, cw: *w, ch: *h, tw: *tw, th: *th, ..Sizes::PICTURE };
@@ -179,8 +206,18 @@ impl Told {
     /// The original's whole line.
     fn of(line: String) -> Told {
         let end = line.match_indices(' ').nth(2).map_or(line.len(), |m| m.0);
-        Told { libwebp: line[..end].to_owned(), line, corner: Corner::NONE }
+        Told { libwebp: line[..end].to_owned(), line, corner: Corner::NONE, spill: Spill::default() }
     }
+}
+
+/// What is not the original's of several jobs together.
+fn left_out(jobs: &[Rows]) -> (Corner, Spill) {
+    let (mut corner, mut spill) = (Corner::NONE, Spill::default());
+    for rows in jobs {
+        corner.add(rows.corner);
+        spill.add(rows.spill);
+    }
+    (corner, spill)
 }
 
 fn whole_answer(job: &Job) -> String {
@@ -242,24 +279,36 @@ fn flag_of(l: u32, packed: &[u8]) -> bool {
 }
 
 fn resize(s: &Sizes, pixels: usize, out: usize, work: usize, px: &Pixels) -> Told {
-    match resized(s, pixels, out, work, px) {
-        Ok((whole, source)) if whole.number == 0 && s.divider() => {
-            let mut told = Told::of(whole.line());
-            told.corner.rows = u64::from(s.th);
-            let out = divided(s, &source, &mut told.corner);
-            told.line = Whole { flag: flag_of(s.layout, &out), out, ..whole }.line();
-            told
-        }
-        Ok((whole, _)) => Told::of(whole.line()),
-        Err(wrong) => Told::of(wrong),
+    let (whole, source, lanes) = match resized(s, pixels, out, work, px) {
+        Ok(all) => all,
+        Err(wrong) => return Told::of(wrong),
+    };
+    let mut told = Told::of(whole.line());
+    if whole.number != 0 {
+        return told;
     }
+    let out = if s.divider() {
+        told.corner.rows = u64::from(s.th);
+        divided(s, &source, &mut told.corner)
+    } else {
+        let row = s.row(s.tw);
+        let rows = lanes.chunks(row).zip(whole.out.chunks(row));
+        match rows.map(|(lanes, original)| without_spill(s.layout, lanes, original.to_vec(), &mut told.spill)).collect::<Result<Vec<_>, _>>() {
+            Ok(rows) => rows.concat(),
+            Err(wrong) => return Told::of(wrong),
+        }
+    };
+    if out != whole.out {
+        told.line = Whole { flag: flag_of(s.layout, &out), out, ..whole }.line();
+    }
+    told
 }
 
-/// The original's answer, and the source.
-fn resized(s: &Sizes, pixels: usize, out: usize, work: usize, px: &Pixels) -> Result<(Whole, Vec<u8>), String> {
+/// The original's answer, the source, and the lanes that its Rescaler makes.
+fn resized(s: &Sizes, pixels: usize, out: usize, work: usize, px: &Pixels) -> Result<(Whole, Vec<u8>, Vec<u8>), String> {
     let number = table::resize(s, pixels, out, work);
     let mut whole = Whole { number, flag: false, out: Vec::new(), work: Some(fill_words(work)) };
-    let mut source = Vec::new();
+    let (mut source, mut lanes) = (Vec::new(), Vec::new());
     if number <= 3 && !too_large(pixels) {
         source = bytes(s.layout, px.pattern, px.seed, pixels);
         let asked = cropped(s, source.clone(), true);
@@ -267,7 +316,8 @@ fn resized(s: &Sizes, pixels: usize, out: usize, work: usize, px: &Pixels) -> Re
             Err(n) if n != number => return Err(format!("! the table says {number}, the original {n}")),
             Ok(_) if number != 0 => return Err(format!("! the table says {number}, the original accepts")),
             Ok(image) => {
-                let (lanes, halves) = scaled_lanes(s, &source);
+                let halves;
+                (lanes, halves) = scaled_lanes(s, &source);
                 if restored(s.layout, &lanes, rust_restore) != image.as_bytes() {
                     return Err("! the original's Rescaler and its resize differ".into());
                 }
@@ -284,7 +334,7 @@ fn resized(s: &Sizes, pixels: usize, out: usize, work: usize, px: &Pixels) -> Re
     if number != 0 {
         whole.out = fill_bytes(out);
     }
-    Ok((whole, source))
+    Ok((whole, source, lanes))
 }
 
 fn crop(s: &Sizes, pixels: usize, out: usize, px: &Pixels) -> String {
@@ -345,8 +395,9 @@ struct Rows {
     whole: String,
     /// Where the original disagrees with itself or with the table.
     wrong: Option<String>,
-    /// The rows whose bytes are divider.rs's.
+    /// The rows whose bytes are divider.rs's, and those whose bytes are spill.rs's.
     corner: Corner,
+    spill: Spill,
 }
 
 impl Rows {
@@ -363,6 +414,7 @@ impl Rows {
             whole: String::new(),
             wrong: None,
             corner: Corner::NONE,
+            spill: Spill::default(),
         }
     }
 
@@ -522,18 +574,19 @@ impl Rows {
             if scaler.dst() != stated && (natural || !beyond) {
                 return Err("! the original's export and SCOPE's formula differ".into());
             }
-            row = if s.kind == PLANE { stated } else { restored(s.layout, &stated, rust_restore) };
+            row = if s.kind == PLANE { stated.clone() } else { restored(s.layout, &stated, rust_restore) };
             self.store();
             let t = self.record[T] as usize;
+            if natural && self.public[t * row.len()..(t + 1) * row.len()] != row {
+                return Err("! the original's Rescaler and its resize, in the corner divider.rs, differ".into());
+            }
             self.record[T] += 1;
             if s.kind != PLANE {
+                row = without_spill(s.layout, &stated, row, &mut self.spill)?;
                 self.record[FLAG] |= u32::from(flag_of(s.layout, &row));
             }
             self.corner.rows += u64::from(s.divider());
             self.natural = natural.then_some(self.record);
-            if natural && self.public[t * row.len()..(t + 1) * row.len()] != row {
-                return Err("! the original's Rescaler and its resize, in the corner divider.rs, differ".into());
-            }
         }
         let mut said = format!("{number} ");
         hex(&mut said, &row);

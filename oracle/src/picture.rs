@@ -1,7 +1,9 @@
 //! The pixels that a pattern and a seed stand for, what lent buffers hold before a call, and checksums.
-//! libwebp.c, ours.c and the program `replay` make the same bytes.
+//! libwebp.c, ours.c and the program `replay` make the same bytes, `replay` those of the patterns below `PATTERNS`.
 
+/// The patterns that are drawn at random; the one after them has one pixel everywhere.
 pub const PATTERNS: u32 = 10;
+pub const ONE_PIXEL: u32 = PATTERNS;
 
 /// A step of the generator of Numerical Recipes: s × 1664525 + 1013904223 modulo 2^32.
 pub fn step(s: u32) -> u32 {
@@ -32,6 +34,9 @@ pub fn alpha_place(layout: u32) -> usize {
 
 /// The first `len` bytes of a picture without end.
 pub fn bytes(layout: u32, pattern: u32, seed: u32, len: usize) -> Vec<u8> {
+    if pattern == ONE_PIXEL {
+        return seed.to_le_bytes().into_iter().cycle().take(len).collect();
+    }
     let place = alpha_place(layout);
     let mut s = seed;
     (0..len)

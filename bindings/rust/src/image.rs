@@ -305,7 +305,7 @@ impl Image {
         Ok(Self { dims, layout: self.layout, pixels, has_alpha })
     }
 
-    /// The picture scaled to `target`: byte for byte what webpkit makes of it, but for one case. A column one pixel wide that becomes one or two wide and
+    /// The picture scaled to `target`: byte for byte what webpkit makes of it, but for two cases. A column one pixel wide that becomes one or two wide and
     /// taller is 0 there; here a divider keeps its pixels, and what stands between two of them is blended:
     ///
     /// ```
@@ -314,6 +314,19 @@ impl Image {
     /// let divider = Image::new(Dimensions::new(1, 2)?, PixelLayout::Rgba8, vec![10, 10, 10, 255, 21, 21, 21, 255])?;
     /// let taller = divider.resize(Dimensions::new(1, 3)?);
     /// assert_eq!(taller.as_bytes(), [10, 10, 10, 255, 16, 16, 16, 255, 21, 21, 21, 255]);
+    /// # Ok::<(), jonquilsaw::Error>(())
+    /// ```
+    ///
+    /// Where sums wrap at extreme sizes, the picture is wrong, and a scaled colour can stand above its alpha. Restored, it runs into the next lane there, red
+    /// into alpha; here it stops at 255 in its own, and alpha is the scaled one. It takes span × height above 4,194,304 × target height, where span is the width,
+    /// or the target's less one if that is wider:
+    ///
+    /// ```
+    /// use jonquilsaw::{Dimensions, Image, PixelLayout};
+    ///
+    /// let column = Image::new(Dimensions::new(1, 1031)?, PixelLayout::Rgba8, [0, 0, 2, 255].repeat(1031))?;
+    /// let wide = column.resize(Dimensions::new(16384, 1)?);
+    /// assert!(wide.as_bytes().chunks(4).all(|pixel| pixel == [0, 0, 255, 1])); // blue 2 under alpha 1, restored
     /// # Ok::<(), jonquilsaw::Error>(())
     /// ```
     ///

@@ -1,6 +1,7 @@
 //! A scaler that takes source rows as they arrive and hands out preview rows as they become ready: of a picture, byte for byte what webpkit's `Image::crop` and
-//! `Image::resize` make of the whole, except that a column one pixel wide which is made taller does not become 0 ([`Image::resize`]); and of planes of 1 to 4
-//! lanes. The arithmetic is a library written and proved in Rattle; this crate is its Rust face, with no dependency.
+//! `Image::resize` make of the whole, except that a column one pixel wide which is made taller does not become 0, and that no colour runs into the next lane
+//! where sums wrap ([`Image::resize`]); and of planes of 1 to 4 lanes. The arithmetic is a library written and proved in Rattle; this crate is its Rust face,
+//! with no dependency.
 //!
 //! - [`Preview`] takes bytes in pieces of any length, as a socket delivers them, and hands out preview rows; [`PreviewWriter`] does so as a [`std::io::Write`].
 //! - [`GroupPreview`] makes several previews of one source in one pass and hands out rows with the job that they belong to; [`GroupWriter`] writes them to a sink

@@ -1,9 +1,8 @@
 -- Matting and restoring a pixel AARRGGBB (SCOPE, "Fixed point and matting"; libwebp's WebPMultARGBRow_C). Assumes nothing.
-use Prim.Native.Nat.{ℕ, suc, _+_, _*_, _-_, _/_, _%_, _^_}
+use Prim.Native.Nat.{ℕ, suc, _+_, _*_, _-_, _/_, _%_, _^_, min}
 use mathlib.Core.Bool.{Bool, cond}
 use mathlib.Core.List.{List}
-use lib.Dec.{eqb}
-use lib.Bits.{bitOr}
+use lib.Dec.{eqb, ltb}
 use lib.ListN.{getD}
 use Rattle.arithmetic.specs.Table.{tabulate}
 
@@ -29,18 +28,20 @@ factorOf inverse a = cond inverse (restoreFactor a) (matteFactor a)
 unfoldable pub scaleColour : ℕ → ℕ → ℕ
 scaleColour c k = (c * k + 2 ^ 23) / 2 ^ 24
 
--- "The three results, shifted by 0, 8 and 16, are or-ed onto the alpha": a result above 255 spills into the next lane
-unfoldable pub orOnto : ℕ → ℕ → ℕ → ℕ → ℕ
-orOnto a b g r = bitOr (bitOr (bitOr (a * 2 ^ 24) b) (g * 2 ^ 8)) (r * 2 ^ 16)
+-- request 7: "Restored colours shall stop at 255 in their own lane." A matted colour is never above 255.
+unfoldable pub cutColour : ℕ → ℕ → ℕ
+cutColour c k = min (scaleColour c k) 255
 
--- mult_argb: alpha 255 unchanged, alpha 0 gives 0, else the colours scaled by the factor of the alpha
+-- lane i of a pixel whose colours are scaled by the factor k; the alpha stays
+unfoldable pub multLane : ℕ → ℕ → ℕ → ℕ
+multLane argb k i = cond (ltb i 3) (cutColour (laneOf argb i) k) (laneOf argb i)
+
+-- mult_argb: alpha 255 unchanged, alpha 0 gives 0, else the colours scaled by the factor of the alpha.
+-- "The three results, shifted by 0, 8 and 16, are or-ed onto the alpha": none is above 255, so that the or is the sum of `pixelOf`.
 unfoldable pub multArgb : ℕ → Bool → ℕ
 multArgb argb inverse =
     let a : ℕ = laneOf argb 3 in
-    let k : ℕ = factorOf inverse a in
-    cond (eqb a 255) argb
-    (cond (eqb a 0) 0
-    (orOnto a (scaleColour (laneOf argb 0) k) (scaleColour (laneOf argb 1) k) (scaleColour (laneOf argb 2) k)))
+    cond (eqb a 255) argb (cond (eqb a 0) 0 (pixelOf (multLane argb (factorOf inverse a))))
 
 -- ---- restore with lent factors
 
@@ -48,13 +49,7 @@ multArgb argb inverse =
 unfoldable pub restoreFactors : List ℕ
 restoreFactors = tabulate (λ i. restoreFactor (suc i)) 254
 
--- the colours of a pixel scaled by one factor, or-ed onto its alpha
-unfoldable pub scaledArgb : ℕ → ℕ → ℕ
-scaledArgb argb k =
-    orOnto (laneOf argb 3) (scaleColour (laneOf argb 0) k) (scaleColour (laneOf argb 1) k) (scaleColour (laneOf argb 2) k)
-
--- mult_argb (restore) with any list in the place of the factors
-unfoldable pub restoredBy : List ℕ → ℕ → ℕ
-restoredBy factors argb =
-    let a : ℕ = laneOf argb 3 in
-    cond (eqb a 255) argb (cond (eqb a 0) 0 (scaledArgb argb (getD factors (a - 1) 0)))
+-- a colour c under alpha a, restored by any list in the place of the factors; above its alpha, c counts as a. By SCOPE's factors that is the cut at 255 (`lent-is`).
+unfoldable pub restoredBy : List ℕ → ℕ → ℕ → ℕ
+restoredBy factors c a =
+    cond (eqb a 255) c (cond (eqb a 0) 0 (scaleColour (min c a) (getD factors (a - 1) 0)))

@@ -4,7 +4,7 @@ mod matting;
 
 pub use matting::matte;
 pub use matting::mult_argb;
-pub use matting::restore_argb;
+pub use matting::restore;
 pub use matting::restore_factors;
 ghost use mathlib.Core.Path.{_≡_};
 ghost use Rattle.arithmetic.specs.Word.{wrapMul};

@@ -1,8 +1,7 @@
 // Matting and restoring a pixel AARRGGBB (SCOPE, "Fixed point and matting"; the Rust: geometry.rs, libwebp's WebPMultARGBRow_C).
 ghost use mathlib.Core.Path.{_≡_};
-ghost use Prim.Native.Nat.{_-_, _<_};
-ghost use lib.ListN.{getD};
-ghost use Rattle.arithmetic.specs.Matte.{matteFactor, scaleColour, multArgb, restoreFactors, scaledArgb, restoredBy};
+ghost use Prim.Native.Nat.{_<_, min};
+ghost use Rattle.arithmetic.specs.Matte.{matteFactor, factorOf, scaleColour, cutColour, multArgb, restoreFactors, restoredBy};
 
 // One colour matted, for every alpha and with no case: libwebp's factor 65793 × alpha over 2^24 is alpha / 255 rounded to the nearest.
 // Both factors of the product fit 16 bits, which lets the compiler put several colours into one vector.
@@ -14,20 +13,12 @@ pub fn matte(colour: u8, alpha: u8) -> u32
     (t + t / 256) / 256
 }
 
-// The factors to restore, as they are lent to `restore_argb`. A table is built anew at each use: once a row, and not once a pixel.
+// The factors to restore, as they are lent to `restore`. A table is built anew at each use: a row's pixels share one.
 // Rules out: an entry off by one; the table shifted by an entry.
 pub fn restore_factors() -> [u32; 254]
     ensures { λ r. ⌜ r ≡ restoreFactors ⌝ }
 {
     RESTORE_FACTORS
-}
-
-// The one place where a factor to restore is read.
-fn restore_factor(alpha: u32, factors: &[u32; 254]) -> u32
-    requires { ⌜ (0 < alpha) × (alpha < 255) ⌝ }
-    ensures { λ r. ⌜ r ≡ getD (now (factors .entry)) (alpha - 1) 0 ⌝ }
-{
-    factors[alpha as usize - 1]
 }
 
 // The Rust's mult_alpha, libwebp's Mult.
@@ -38,49 +29,52 @@ fn mult_alpha(colour: u32, scale: u32) -> u32
     ((colour as u64 * scale as u64 + 8388608) / 16777216) as u32
 }
 
-// The colours of a pixel scaled by one factor. A colour above 255 spills into the next lane.
-fn scale_argb(argb: u32, scale: u32) -> u32
-    ensures { λ r. ⌜ r ≡ scaledArgb argb scale ⌝ }
+fn smaller(a: u8, b: u8) -> u8
+    ensures { λ r. ⌜ r ≡ min a b ⌝ }
 {
-    let alpha = argb >> 24;
-    let blue = mult_alpha(argb % 256, scale);
-    let green = mult_alpha((argb >> 8) % 256, scale);
-    let red = mult_alpha((argb >> 16) % 256, scale);
-    (alpha << 24) | blue | (green << 8) | (red << 16)
+    if a < b {
+        return a;
+    }
+    b
 }
 
-// The Rust's mult_argb with `inverse`, by lent factors: the colours of one pixel restored.
-// Rules out: the factor of another alpha; a restored colour cut off at 255.
-pub fn restore_argb(argb: u32, factors: &[u32; 254]) -> u32
-    ensures { λ r. ⌜ r ≡ restoredBy (now (factors .entry)) argb ⌝ }
+// One colour restored by lent factors, for every alpha. A colour above its alpha counts as the alpha, which by SCOPE's factors is restored to 255: the cut
+// ahead of the product is the cut after it.
+// Rules out: a colour above its alpha that is not cut; the factor of another alpha.
+pub fn restore(colour: u8, alpha: u8, factors: &[u32; 254]) -> u32
+    ensures { λ r. ⌜ r ≡ restoredBy (now (factors .entry)) colour alpha ⌝ }
 {
-    let alpha = argb >> 24;
     if alpha == 255 {
-        return argb;
+        return colour as u32;
     }
     if alpha == 0 {
         return 0;
     }
-    scale_argb(argb, restore_factor(alpha, factors))
+    mult_alpha(smaller(colour, alpha) as u32, factors[alpha as usize - 1])
 }
 
-// The Rust's mult_argb: the colours of one pixel matted, or restored where `inverse`. A restored colour above 255 spills into the next lane.
-// Rules out: a restored colour cut off at 255; a colour or-ed onto another lane.
+// One colour matted, or restored where `inverse`.
+fn scale(colour: u8, alpha: u8, inverse: bool, factors: &[u32; 254]) -> u8
+    requires { ⌜ now factors ≡ restoreFactors ⌝ }
+    ensures { λ r. ⌜ r ≡ cutColour colour (factorOf inverse alpha) ⌝ }
+{
+    if inverse {
+        return restore(colour, alpha, factors) as u8;
+    }
+    matte(colour, alpha) as u8
+}
+
+// The Rust's mult_argb: the colours of one pixel matted, or restored where `inverse`, each in its own lane.
+// Rules out: a restored colour that spills into the next lane, or wraps in its own; two colours exchanged.
 pub fn mult_argb(argb: u32, inverse: bool) -> u32
     ensures { λ r. ⌜ r ≡ multArgb argb inverse ⌝ }
 {
-    if inverse {
-        let factors = restore_factors();
-        return restore_argb(argb, &factors);
-    }
-    let alpha = argb >> 24;
-    if alpha == 255 {
-        return argb;
-    }
-    if alpha == 0 {
-        return 0;
-    }
-    scale_argb(argb, 65793 * alpha)
+    let factors = restore_factors();
+    let alpha = (argb / 16777216) as u8;
+    let blue = scale((argb % 256) as u8, alpha, inverse, &factors);
+    let green = scale((argb / 256 % 256) as u8, alpha, inverse, &factors);
+    let red = scale((argb / 65536 % 256) as u8, alpha, inverse, &factors);
+    blue as u32 + 256 * green as u32 + 65536 * red as u32 + 16777216 * alpha as u32
 }
 
 // The factors to restore, of alpha 1 to 254: entry alpha - 1 is 255 × 2^24 / alpha.

@@ -5,7 +5,7 @@ use Rattle.arithmetic.specs.FixedPoint.{MULT, FLOOR, FRAC}
 use Rattle.arithmetic.specs.Sum.{sum}
 use Rattle.arithmetic.specs.Table.{tabulate}
 use Rattle.arithmetic.specs.Weight.{span}
-use Rattle.arithmetic.specs.Matte.{laneOf, matteFactor, restoreFactor, factorOf, scaleColour, orOnto, pixelOf, multArgb}
+use Rattle.arithmetic.specs.Matte.{laneOf, matteFactor, restoreFactor, factorOf, scaleColour, cutColour, multLane, pixelOf, multArgb}
 use Rattle.pixels.specs.Sizes.{badSide, badSize, emptyCrop, cropBeyond, badLanes, sizesNumber}
 use Rattle.pixels_layout.specs.Layout.{pixelAt, packedByte}
 use Rattle.pixels_layout.specs.Lanes.{matted, restoredPixel, restoredPlace}
@@ -38,7 +38,7 @@ unfolding callsGiven told groupStep groupStarted groupStartWork groupStartNumber
     added rowIn byteOut rowLeft rowValue share ratio byteDown leftDown start over last columnSum carry shrinkValue growValue value
     made countsFit needed since windowOf pictureRow someClear hasAlpha matted restoredPixel restoredPlace pixelAt packedByte
     badSide badSize emptyCrop cropBeyond badLanes sizesNumber pixel opaque
-    laneOf matteFactor restoreFactor factorOf scaleColour orOnto pixelOf multArgb span tabulate sum MULT FLOOR FRAC ceil
+    laneOf matteFactor restoreFactor factorOf scaleColour cutColour multLane pixelOf multArgb span tabulate sum MULT FLOOR FRAC ceil
 calls-hold = refl
 
 pub trials-hold : TrialsHold

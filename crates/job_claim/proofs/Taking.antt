@@ -1,5 +1,5 @@
--- A row goes out: its bytes are the closed form's, the work rows hold what is left, and under the premise a picture's taken alpha, and the colours beside an alpha
--- of 255, and every byte of a plane are near the exact mean (MATHEMATICS 7). Assumes nothing.
+-- A row goes out: its bytes are the closed form's, the work rows hold what is left, a picture's alphas and flag are the scaled ones, and under the premise its
+-- alpha, the colours beside an alpha of 255 and every byte of a plane are near the exact mean (MATHEMATICS 7). Assumes nothing.
 use Prim.Native.Nat.{ℕ, suc, _+_, _*_, _/_, _%_, _≤_, _<_}
 use mathlib.Core.Path.{_≡_, sym, ap, _∙_}
 use mathlib.Core.Bool.{true}
@@ -7,7 +7,7 @@ use mathlib.Core.List.{List}
 use native.Mathlib.Omega.{arith}
 use native.Mathlib.Nat.{mul-le-mul-left}
 use lib.ListN.{length, getD, drop}
-use Rattle.arithmetic.specs.Matte.{laneOf, multArgb, pixelOf}
+use Rattle.arithmetic.specs.Matte.{laneOf, multArgb, pixelOf, scaleColour, restoreFactor}
 use Rattle.arithmetic.proofs.Mattes.{pixel-cong}
 use Rattle.arithmetic.specs.Weight.{span}
 use Rattle.arithmetic.proofs.Tables.{length-tabulate, getD-tabulate, tabulate-cong}
@@ -18,6 +18,8 @@ use Rattle.pixels_layout.specs.declared.PixelLayout.{PixelLayout}
 use Rattle.pixels_layout.specs.Layout.{placeOf, alphaLane, packedByte}
 use Rattle.pixels_layout.specs.Lanes.{restoredPixel, restoredPlace}
 use Rattle.pixels_layout.proofs.Tabled.{place-lt, place-twice}
+use Rattle.pixels_alpha.specs.Alpha.{someClear, hasAlpha}
+use Rattle.pixels_alpha.proofs.Flags.{clear-cong}
 use Rattle.rows_form.specs.Form.{placeIn}
 use Rattle.rows_schedule.specs.Schedule.{needed}
 use Rattle.rows_schedule.proofs.Needed.{needed-used}
@@ -27,14 +29,14 @@ use Rattle.rows_laws.specs.Mean.{exactSum, total, Near, Premise}
 use Rattle.rows_laws.proofs.Held.{held-byte, held-out}
 use Rattle.rows_laws.proofs.WorkRows.{rowLeft-length, rowLeft-rest}
 use Rattle.rows_laws.proofs.Distance.{distance}
-use Rattle.rows_laws.proofs.Taken.{takenPixel, Matted, matte-matted, taken-alpha, taken-opaque}
+use Rattle.rows_laws.proofs.Taken.{takenPixel, Matted, matte-matted, taken-alpha, taken-opaque, taken-colour}
 use Rattle.job_rules.specs.declared.Plan.{Plan}
 use Rattle.job_rules.specs.Rules.{lanesOf, formOf, planOf, planeOf, R}
 use Rattle.job.specs.declared.Job.{Job}
 use Rattle.job.specs.Record.{Rules}
 use Rattle.job.specs.Calls.{scaleBy, usedBy, rowTaken, workTaken}
 use Rattle.job_claim.specs.Rows.{sourceByte, readByte, scaledLane, rowOf}
-use Rattle.job_claim.proofs.Reading.{Shape, shape-of, out-cong, cropValue, cropValue-word, readByte-small}
+use Rattle.job_claim.proofs.Reading.{shape-of, out-cong, cropValue, cropValue-word, readByte-small}
 use Rattle.job_claim.proofs.Feeding.{Holds}
 
 -- ---- a take: the row that goes out, and what is left
@@ -137,22 +139,36 @@ module _ (source : Dimensions) (layout : PixelLayout) (crop : Rect) (target : Di
       ∙ rw (q, d, place-twice layout k l)
       (ap (λ (t : ℕ). laneOf (multArgb t true) k) (pixel-cong _ _ (lane-of picture b y i inside)))
 
-  module _ (fits : Fits source crop target) (row : y < target .height) (premise : Bound picture b y i inside) where
-    matted-picture : Matted (crop .width) (crop .height) (readByte picture b)
-    unfolding readByte
-    matted-picture = matte-matted (crop .width) (crop .height) (λ c i'. pixelOf (sourceByte picture b c i'))
+  -- the alpha survives restoring, whatever the sizes
+  pub row-alpha : byteAt picture b y i inside alphaLane ≡ laneByte picture b y i inside alphaLane
+  row-alpha =
+      row-lane alphaLane (omega arith) ∙ taken-alpha (crop .width) (target .width) (crop .height) (target .height) i y (readByte picture b)
 
+  matted-picture : Matted (crop .width) (crop .height) (readByte picture b)
+  unfolding readByte
+  matted-picture = matte-matted (crop .width) (crop .height) (λ c i'. pixelOf (sourceByte picture b c i'))
+
+  module _ (fits : Fits source crop target) (row : y < target .height) (premise : Bound picture b y i inside) where
     pub alpha-near : NearMean picture b y i inside alphaLane (byteAt picture b y i inside alphaLane)
-    alpha-near =
-        let e =
-        taken-alpha (crop .width) (target .width) (crop .height) (target .height) i y (fits .crop-width) (fits .target-width .most)
-        (fits .crop-height) (fits .target-height .most) inside row premise (readByte picture b) matted-picture in
-        rw (row-lane alphaLane (omega arith) ∙ e) (lane-near picture b y i inside fits row premise alphaLane)
+    alpha-near = rw row-alpha (lane-near picture b y i inside fits row premise alphaLane)
 
     pub colour-near : byteAt picture b y i inside alphaLane ≡ 255 → (k : ℕ) → k < alphaLane → NearMean picture b y i inside k (byteAt picture b y i inside k)
     colour-near opaque k l =
         let e =
-        taken-opaque (crop .width) (target .width) (crop .height) (target .height) i y (fits .crop-width) (fits .target-width .most)
-        (fits .crop-height) (fits .target-height .most) inside row premise (readByte picture b) matted-picture
+        taken-opaque (crop .width) (target .width) (crop .height) (target .height) i y (readByte picture b)
         (sym (row-lane alphaLane (omega arith)) ∙ opaque) k (omega arith) in
         rw (row-lane k (omega arith) ∙ e) (lane-near picture b y i inside fits row premise k)
+
+    -- and no colour is cut as it is restored: there the bytes are the Rust's. An end in itself
+    pub colour-not-cut : (k : ℕ) → k < alphaLane → byteAt picture b y i inside k ≡ scaleColour (laneByte picture b y i inside k) (restoreFactor (laneByte picture b y i inside alphaLane))
+    colour-not-cut k l =
+        row-lane k (omega arith)
+        ∙ taken-colour (crop .width) (target .width) (crop .height) (target .height) i y (fits .crop-width) (fits .target-width .most)
+        (fits .crop-height) (fits .target-height .most) inside row premise (readByte picture b) matted-picture k l
+
+-- so the flag of an output row is that of its scaled alphas: an end in itself
+pub row-flag : (source : Dimensions) (layout : PixelLayout) (crop : Rect) (target : Dimensions) (b : ℕ → ℕ) (y : ℕ)
+    → hasAlpha layout (rowOf (planOf source layout crop target) b y) (target .width)
+    ≡ someClear (λ i. scaled (crop .width) (target .width) (crop .height) (target .height) (readByte (planOf source layout crop target) b alphaLane) i y) (target .width)
+unfolding hasAlpha
+row-flag source layout crop target b y = clear-cong _ _ (target .width) (row-alpha source layout crop target b y)

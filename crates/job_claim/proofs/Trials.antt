@@ -5,7 +5,7 @@ use Rattle.arithmetic.specs.FixedPoint.{MULT, FLOOR, FRAC}
 use Rattle.arithmetic.specs.Sum.{sum}
 use Rattle.arithmetic.specs.Table.{tabulate}
 use Rattle.arithmetic.specs.Weight.{span, growWeight}
-use Rattle.arithmetic.specs.Matte.{laneOf, matteFactor, restoreFactor, factorOf, scaleColour, orOnto, pixelOf, multArgb}
+use Rattle.arithmetic.specs.Matte.{laneOf, matteFactor, restoreFactor, factorOf, scaleColour, cutColour, multLane, pixelOf, multArgb}
 use Rattle.pixels_layout.specs.declared.PixelLayout.the-variants.{Rgba8, Argb8, Bgra8}
 use Rattle.pixels.specs.Sizes.{badSide, badSize, sizeNumber, derivedSide, scaledNumber}
 use Rattle.pixels_layout.specs.Layout.{packedByte}
@@ -22,7 +22,7 @@ pub all-hold : AllHold
 unfolding trials givenOf saidOf pixel opaque readByte scaledLane rowOf rowsOf resized resizedFlag
     newest shareBefore firstHalf scaledByte scaled share ratio byteDown mixed blend byteUp start over last columnSum carry shrinkValue growValue value
     made needed since someClear hasAlpha restoredPixel restoredPlace packedByte badSide badSize sizeNumber derivedSide scaledNumber
-    laneOf matteFactor restoreFactor factorOf scaleColour orOnto pixelOf multArgb span growWeight tabulate sum MULT FLOOR FRAC ceil
+    laneOf matteFactor restoreFactor factorOf scaleColour cutColour multLane pixelOf multArgb span growWeight tabulate sum MULT FLOOR FRAC ceil
 all-hold Rgba8 = refl
 all-hold Argb8 = refl
 all-hold Bgra8 = refl

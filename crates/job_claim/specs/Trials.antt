@@ -78,8 +78,8 @@ trials l =
     -- "Colour 200, alpha 128: matted 100, restored 199"
     ∷ trial (multArgb 0x80C8C8C8 false ∷ []) (0x80646464 ∷ [])
     ∷ trial (multArgb 0x80646464 true ∷ []) (0x80C7C7C7 ∷ [])
-    -- "Restore 01000002: 010001FE"
-    ∷ trial (multArgb 0x01000002 true ∷ []) (0x010001FE ∷ [])
+    -- "Restore 01000002: 010000FF"
+    ∷ trial (multArgb 0x01000002 true ∷ []) (0x010000FF ∷ [])
     -- "h 6, g 4, R for 0 to 6: 0 0 1 2 2 3 4"
     ∷ trial (tabulate (rowsBy 0 6 4) 7) (0 ∷ 0 ∷ 1 ∷ 2 ∷ 2 ∷ 3 ∷ 4 ∷ [])
     -- "h 3, g 5: 0 1 3 5"

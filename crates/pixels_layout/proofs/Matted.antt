@@ -2,12 +2,12 @@
 -- again: the lanes of the restored pixel. Assumes nothing.
 use Prim.Native.Nat.{ℕ, _+_, _*_, _/_, _%_, _≤_, _<_}
 use mathlib.Core.Path.{_≡_, ap, ap₂, _∙_}
-use mathlib.Core.Bool.{true}
+use mathlib.Core.Bool.{true, false}
 use mathlib.Core.List.{List}
 use native.Mathlib.Omega.{arith}
 use lib.ListN.{getD}
 use Rattle.arithmetic.specs.Matte.{laneOf, scaleColour, matteFactor, multArgb}
-use Rattle.arithmetic.proofs.Mattes.{lane-byte, matte-colour, matte-alpha, pixel-cong}
+use Rattle.arithmetic.proofs.Mattes.{lane-byte, matte-colour, argb-alpha, pixel-cong}
 use Rattle.pixels_layout.specs.declared.PixelLayout.{PixelLayout}
 use Rattle.pixels.specs.Sizes.{pixelLanes, rowBytes, halfValues}
 use Rattle.pixels_layout.specs.Layout.{placeOf, alphaLane, laneAt, alphaAt, pixelAt, packedByte}
@@ -29,7 +29,7 @@ module _ (l : PixelLayout) (s : List ℕ) (bytes : (x : ℕ) → getD s x 0 ≤ 
   -- "alpha bytes are as offered"
   pub matted-alpha : matted l s alphaLane i ≡ alphaAt l s i
   unfolding matted
-  matted-alpha = matte-alpha (pixelAt l s i) ∙ pixelAt-lane l s i alphaLane bytes (omega arith)
+  matted-alpha = argb-alpha (pixelAt l s i) false ∙ pixelAt-lane l s i alphaLane bytes (omega arith)
 
 -- Restoring and packing look at the lanes of the same pixel alone: lanes that agree on a row are packed to the same row.
 pub restored-cong : (l : PixelLayout) (v w : ℕ → ℕ) (m z : ℕ) → z < rowBytes pixelLanes m → ((x : ℕ) → x < halfValues pixelLanes m → v x ≡ w x) → restoredPlace l v z ≡ restoredPlace l w z

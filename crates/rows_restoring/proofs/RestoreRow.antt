@@ -1,5 +1,5 @@
 -- A call of restore_row: number 0 exactly if both tests pass, and the flag and the buffer with each number. Assumes nothing.
-use Prim.Native.Nat.{ℕ}
+use Prim.Native.Nat.{ℕ, _<_}
 use mathlib.Core.Path.{_≡_, sym, _∙_}
 use mathlib.Core.Bool.{Bool, false}
 use mathlib.Core.List.{List}
@@ -14,9 +14,9 @@ use Rattle.pixels_layout.specs.Lanes.{restoredPlace}
 use Rattle.pixels.proofs.Truths.{same, same-of}
 use Rattle.pixels.proofs.Causes.{first-none, none-applies}
 use Rattle.pixels.proofs.Numbers.{flagged-refused, buffer-refused}
-use Rattle.pixels_alpha.specs.Alpha.{hasAlpha}
+use Rattle.pixels_alpha.specs.Alpha.{someClear, hasAlpha}
 use Rattle.rows_restoring.specs.Restoring.{restoreCauses, restoreNumber, restoredRow, restoredOut, rowFlag}
-use Rattle.rows_restoring.specs.Inner.Restoring.{orderedByte, clearAfter}
+use Rattle.rows_restoring.specs.Inner.Restoring.{alphaIn, orderedByte}
 use Rattle.rows_restoring.proofs.RestoredPixels.{restored-ordered, restored-flag}
 
 module _ (m outBytes : ℕ) where
@@ -40,10 +40,10 @@ module _ (l : PixelLayout) (m : ℕ) (out : List ℕ) where
   unfolding restoredOut rowFlag
   restore-refused why e = (sym e, (flagged-refused why _ _ e .1, buffer-refused why _ _ out e .1))
 
-  pub restore-done : {flag : Bool} {lanes out′ : List ℕ} → restoreNumber m (length out) ≡ 0 → flag ≡ clearAfter out m
+  pub restore-done : {flag : Bool} {lanes out′ : List ℕ} → ((y : ℕ) → getD out y 0 < 256) → restoreNumber m (length out) ≡ 0 → flag ≡ someClear (alphaIn out) m
       → lanes ≡ tabulate (restoredPlace Bgra8 (λ x. getD out x 0)) (rowBytes pixelLanes m) → out′ ≡ tabulate (orderedByte l lanes) (rowBytes pixelLanes m)
       → (0 ≡ restoreNumber m (length out)) × ((flag ≡ rowFlag l m out) × (out′ ≡ restoredOut l m out))
   unfolding restoredRow
-  restore-done e f p q =
+  restore-done small e f p q =
       let made = restore-made e in
-      (sym e, (f ∙ restored-flag l out m ∙ sym (made .0), rw p at q ∙ restored-ordered l (λ x. getD out x 0) m ∙ sym (made .1)))
+      (sym e, (f ∙ restored-flag l out m small ∙ sym (made .0), rw p at q ∙ restored-ordered l (λ x. getD out x 0) m ∙ sym (made .1)))

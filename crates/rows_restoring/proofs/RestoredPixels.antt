@@ -1,20 +1,19 @@
--- A row restored and put in a layout's order, pixel by pixel: four lanes are stored a turn, an opaque pixel keeps its own, and the byte order is the
--- table's. Assumes nothing.
-use Prim.Native.Nat.{ℕ, _+_, _*_, _/_, _%_, _^_, _≤_, _<_}
+-- A row restored and put in a layout's order, pixel by pixel: every pixel keeps its alpha and an opaque one its colours, so that the flag is that of the alphas
+-- before; the byte order is the table's. Assumes nothing.
+use Prim.Native.Nat.{ℕ, _+_, _*_, _/_, _%_, _≤_, _<_}
 use mathlib.Core.Path.{_≡_, refl, sym, ap, ap₂, _∙_}
-use mathlib.Core.Bool.{Bool, true, false, not, _||_}
+use mathlib.Core.Bool.{Bool, true, false, or-false}
 use mathlib.Core.List.{List}
 use native.Mathlib.Omega.{arith}
-use native.Mathlib.Nat.{add-zero}
+use native.Mathlib.Nat.{add-zero, le-of-suc-le-suc}
 use native.Mathlib.Numerals.{add-one}
-use lib.Dec.{eqb}
 use lib.ListN.{length, getD, set}
-use lib.Seq.{set-getD}
+use lib.Seq.{getD-set-other}
 use borrow.Author.Tests.{eq-eqb}
-use Rattle.arithmetic.specs.Matte.{laneOf, pixelOf, multArgb}
+use Rattle.arithmetic.specs.Matte.{laneOf, pixelOf, factorOf, cutColour, multArgb}
 use Rattle.arithmetic.specs.Table.{tabulate}
 use Rattle.arithmetic.proofs.Tables.{getD-tabulate, tabulate-cong, tabulate-is}
-use Rattle.arithmetic.proofs.Mattes.{argb-opaque, pixel-lane}
+use Rattle.arithmetic.proofs.Mattes.{restored-alpha, restored-colour, restored-opaque}
 use Rattle.pixels_layout.specs.declared.PixelLayout.{PixelLayout}
 use Rattle.pixels_layout.specs.declared.PixelLayout.the-variants.{Rgba8, Argb8, Bgra8}
 use Rattle.pixels.specs.Sizes.{pixelLanes, rowBytes}
@@ -23,110 +22,102 @@ use Rattle.pixels_layout.specs.Lanes.{restoredPixel, restoredPlace}
 use Rattle.pixels_alpha.specs.Alpha.{someClear, hasAlpha}
 use Rattle.pixels_layout.proofs.Tabled.{each-lane, place-lt, place-twice}
 use Rattle.pixels_layout.proofs.Packing.{packed-byte}
-use Rattle.pixels_alpha.proofs.Flags.{clear-none, clear-cong}
-use Rattle.rows_restoring.specs.Inner.Restoring.{wordAt, restoredAt, putLanes, orderedByte, clearAfter}
+use Rattle.pixels_alpha.proofs.Flags.{clear-none, clear-at, clear-cong}
+use Rattle.rows_restoring.specs.Inner.Restoring.{alphaIn, restoredAt, putColours, orderedByte}
 use Rattle.arithmetic.proofs.Stores.{Stored, none-stored, store, store-four, keep, place, ahead}
 
 -- ---- the scaler's own order
 own-place : (k : ℕ) → k < pixelLanes → placeOf Bgra8 k ≡ k
 own-place = each-lane (λ k. placeOf Bgra8 k ≡ k) refl refl refl refl
 
--- ---- four lanes stored
-pub put-next : {f : ℕ → ℕ} {s₀ s : List ℕ} {w : ℕ} (v : ℕ → ℕ) (j : ℕ) → Stored f s₀ s w (pixelLanes * j) → pixelLanes * j + pixelLanes ≤ w → ((k : ℕ) → k < pixelLanes → v k ≡ f (pixelLanes * j + k))
-    → Stored f s₀ (putLanes s (pixelLanes * j) v) w (pixelLanes * (j + 1))
-unfolding putLanes
-put-next {f} v j i h e =
-    let first : v 0 ≡ f (pixelLanes * j) = e 0 (omega arith) ∙ ap f (add-zero (pixelLanes * j)) in
-    place (store-four i h first (e 1 (omega arith)) (e 2 (omega arith)) (e 3 (omega arith))) (pixelLanes * (j + 1)) (omega arith)
-
--- the same lanes again
-pub put-same : (s : List ℕ) (x : ℕ) (v : ℕ → ℕ) → ((k : ℕ) → k < pixelLanes → v k ≡ getD s (x + k) 0) → s ≡ putLanes s x v
-unfolding putLanes
-put-same s x v e =
-    let first : v 0 ≡ getD s x 0 = e 0 (omega arith) ∙ ap (λ (t : ℕ). getD s t 0) (add-zero x) in
-    sym (step (x + 3) (step (x + 2) (step (x + 1) (step x refl first) (e 1 (omega arith))) (e 2 (omega arith))) (e 3 (omega arith)))
+-- ---- one pixel: its colours stored one after another, the alpha read first
+pub colours-put : (s : List ℕ) (x : ℕ) {a : ℕ} {s₁ s₂ s₃ : List ℕ} → a ≡ getD s (x + alphaLane) 0
+    → s₁ ≡ set s x (cutColour (getD s x 0) (factorOf true a))
+    → s₂ ≡ set s₁ (x + 1) (cutColour (getD s₁ (x + 1) 0) (factorOf true a))
+    → s₃ ≡ set s₂ (x + 2) (cutColour (getD s₂ (x + 2) 0) (factorOf true a))
+    → s₃ ≡ putColours s x (restoredAt s x)
+unfolding putColours restoredAt
+colours-put s x {a} {s₁} {s₂} ea p q r =
+    let second : getD s₁ (x + 1) 0 ≡ getD s (x + 1) 0 = rw p (getD-set-other s x (x + 1) _ 0 (λ e. omega arith)) in
+    let past : getD s₁ (x + 2) 0 ≡ getD s (x + 2) 0 = rw p (getD-set-other s x (x + 2) _ 0 (λ e. omega arith)) in
+    let third : getD s₂ (x + 2) 0 ≡ getD s (x + 2) 0 = rw q (getD-set-other s₁ (x + 1) (x + 2) _ 0 (λ e. omega arith)) ∙ past in
+    let one = stored x {t = s} p refl (ap (λ (t : ℕ). getD s t 0) (sym (add-zero x))) in
+    let two = stored (x + 1) {t = s₁} q one second in
+    stored (x + 2) {t = s₂} r two third
   where
-    step : (y : ℕ) {t : List ℕ} {a : ℕ} → t ≡ s → a ≡ getD s y 0 → set t y a ≡ s
-    step y p q = ap₂ (λ (u : List ℕ) (b : ℕ). set u y b) p q ∙ set-getD s y 0
+    stored : (y : ℕ) {t t′ u : List ℕ} {c c′ : ℕ} → u ≡ set t y (cutColour c (factorOf true a)) → t ≡ t′ → c ≡ c′
+        → u ≡ set t′ y (cutColour c′ (factorOf true (getD s (x + alphaLane) 0)))
+    stored y e et ec = e ∙ cc
 
--- ---- one pixel
-lane-alpha : (n : ℕ) → n < 2 ^ 32 → laneOf n alphaLane ≡ n / 2 ^ 24
-unfolding laneOf
-lane-alpha n h = omega arith
+-- ---- pixel j of a row of bytes, restored
+module _ (s : List ℕ) (small : (y : ℕ) → getD s y 0 < 256) (j : ℕ) where
+  abbrev lanes : ℕ → ℕ
+  lanes k = getD s (pixelLanes * j + k) 0
 
--- the word and the lanes as the code has them
-word-is : (s : List ℕ) (x : ℕ) → getD s x 0 + 2 ^ 8 * getD s (x + 1) 0 + 2 ^ 16 * getD s (x + 2) 0 + 2 ^ 24 * getD s (x + 3) 0 ≡ wordAt s x
-unfolding wordAt pixelOf
-word-is s x = omega (arith, ap (λ (t : ℕ). getD s t 0) (add-zero x))
+  bytes : (k : ℕ) → k < pixelLanes → lanes k ≤ 255
+  bytes k l = le-of-suc-le-suc (small (pixelLanes * j + k))
 
-pub lanes-are : (s : List ℕ) (x n : ℕ) → n < 2 ^ 32 → set (set (set (set s x (n % 256)) (x + 1) (n / 256 % 256)) (x + 2) (n / 65536 % 256)) (x + 3) (n / 16777216) ≡ putLanes s x (laneOf n)
-unfolding putLanes laneOf
-lanes-are s x n h = same (omega arith) (omega arith) (omega arith) (omega arith)
-  where
-    same : {a b c d a′ b′ c′ d′ : ℕ} → a ≡ a′ → b ≡ b′ → c ≡ c′ → d ≡ d′ → set (set (set (set s x a) (x + 1) b) (x + 2) c) (x + 3) d ≡ set (set (set (set s x a′) (x + 1) b′) (x + 2) c′) (x + 3) d′
-    same p q r t = cc
+  place-is : (k : ℕ) → k < pixelLanes → restoredPlace Bgra8 (λ x. getD s x 0) (pixelLanes * j + k) ≡ laneOf (multArgb (pixelOf lanes) true) k
+  unfolding restoredPlace restoredPixel
+  place-is k l =
+      packed-byte Bgra8 (restoredPixel (λ x. getD s x 0)) j k l ∙ ap (laneOf (restoredPixel (λ x. getD s x 0) j)) (own-place k l)
 
--- the pixel made of the word n, which mult_argb made of w
-pub pixel-done : (s : List ℕ) (x : ℕ) {w n : ℕ} {s′ : List ℕ} → w ≡ getD s x 0 + 2 ^ 8 * getD s (x + 1) 0 + 2 ^ 16 * getD s (x + 2) 0 + 2 ^ 24 * getD s (x + 3) 0
-    → n ≡ multArgb w true → n < 2 ^ 32 → s′ ≡ putLanes s x (laneOf n)
-    → (not (eqb (n / 16777216) 255) ≡ not (eqb (laneOf (restoredAt s x) alphaLane) 255)) × (s′ ≡ putLanes s x (laneOf (restoredAt s x)))
-unfolding restoredAt
-pixel-done s x {w} {n} e m h p =
-    let same : n ≡ restoredAt s x = m ∙ ap (λ (t : ℕ). multArgb t true) (e ∙ word-is s x) in
-    (ap (λ (t : ℕ). not (eqb t 255)) (sym (lane-alpha n h) ∙ ap (λ (t : ℕ). laneOf t alphaLane) same), p ∙ ap (λ (t : ℕ). putLanes s x (laneOf t)) same)
+  colour-is : (k : ℕ) → k < alphaLane → restoredAt s (pixelLanes * j) k ≡ restoredPlace Bgra8 (λ x. getD s x 0) (pixelLanes * j + k)
+  unfolding restoredAt
+  colour-is k l = sym (place-is k (omega arith) ∙ restored-colour lanes bytes k l)
 
--- an opaque pixel is restored already
-module _ (s : List ℕ) (x : ℕ) (bytes : (y : ℕ) → getD s y 0 < 256) (opaque : getD s (x + 3) 0 ≡ 255) where
-  small : (k : ℕ) → k < pixelLanes → getD s (x + k) 0 ≤ 255
-  small k l = omega (arith, bytes (x + k))
+  -- the alpha survives
+  alpha-is : laneOf (multArgb (pixelOf lanes) true) alphaLane ≡ alphaIn s j
+  alpha-is = restored-alpha lanes bytes
 
-  opaque-word : restoredAt s x ≡ wordAt s x
-  unfolding restoredAt wordAt
-  opaque-word =
-      argb-opaque (wordAt s x) true (pixel-lane (λ k. getD s (x + k) 0) small 3 (omega arith) ∙ opaque)
+  alpha-kept : alphaIn s j ≡ restoredPlace Bgra8 (λ x. getD s x 0) (pixelLanes * j + alphaLane)
+  alpha-kept = sym (place-is alphaLane (omega arith) ∙ alpha-is)
 
-  opaque-lane : (k : ℕ) → k < pixelLanes → laneOf (restoredAt s x) k ≡ getD s (x + k) 0
-  unfolding wordAt
-  opaque-lane k l = ap (λ (t : ℕ). laneOf t k) opaque-word ∙ pixel-lane (λ i. getD s (x + i) 0) small k l
+  -- and an opaque pixel is as it was
+  opaque-kept : alphaIn s j ≡ 255 → (k : ℕ) → k < pixelLanes → lanes k ≡ restoredPlace Bgra8 (λ x. getD s x 0) (pixelLanes * j + k)
+  opaque-kept e k l = sym (place-is k l ∙ restored-opaque lanes bytes e k l)
 
-  pub opaque-kept : s ≡ putLanes s x (laneOf (restoredAt s x))
-  opaque-kept = put-same s x (laneOf (restoredAt s x)) opaque-lane
-
-  pub opaque-flag : false ≡ not (eqb (laneOf (restoredAt s x) alphaLane) 255)
-  opaque-flag = simp (eq-eqb (laneOf (restoredAt s x) alphaLane) 255 (opaque-lane 3 (omega arith) ∙ opaque))
-
--- ---- the loop that restores: j pixels of m are restored, and the flag is theirs
+-- ---- the loop that restores: j pixels of m are restored, and the flag is that of their alphas
 pub record Restoring (s₀ s : List ℕ) (m j : ℕ) (flag : Bool) : Type 0 where
   pub bytes : Stored (restoredPlace Bgra8 (λ x. getD s₀ x 0)) s₀ s (rowBytes pixelLanes m) (pixelLanes * j)
-  pub flag-is : flag ≡ clearAfter s₀ j
+  pub flag-is : flag ≡ someClear (alphaIn s₀) j
 
 pub restore-first : (s : List ℕ) (m : ℕ) → length s ≡ rowBytes pixelLanes m → Restoring s s m 0 false
-unfolding clearAfter
 restore-first s m e =
     record { bytes = none-stored (restoredPlace Bgra8 (λ x. getD s x 0)) (omega arith); flag-is = sym (clear-none _) }
 
-module _ {s₀ s : List ℕ} {m j : ℕ} {flag : Bool} (i : Restoring s₀ s m j flag) where
-  pixel-is : restoredAt s (pixelLanes * j) ≡ restoredPixel (λ x. getD s₀ x 0) j
-  unfolding restoredAt wordAt restoredPixel pixelOf
-  pixel-is =
-      ap (λ (t : ℕ). multArgb t true)
-      (omega (arith, ahead (i .bytes) (pixelLanes * j + 0) (omega arith), ahead (i .bytes) (pixelLanes * j + 1) (omega arith), ahead (i .bytes) (pixelLanes * j + 2) (omega arith), ahead (i .bytes) (pixelLanes * j + 3) (omega arith)))
+module _ {s₀ s : List ℕ} {m j : ℕ} {flag : Bool} (small : (y : ℕ) → getD s₀ y 0 < 256) (i : Restoring s₀ s m j flag) (more : j < m) where
+  ahead-is : (k : ℕ) → getD s (pixelLanes * j + k) 0 ≡ getD s₀ (pixelLanes * j + k) 0
+  ahead-is k = ahead (i .bytes) (pixelLanes * j + k) (omega arith)
 
-  lane-is : (k : ℕ) → k < pixelLanes → laneOf (restoredAt s (pixelLanes * j)) k ≡ restoredPlace Bgra8 (λ x. getD s₀ x 0) (pixelLanes * j + k)
-  unfolding restoredPlace
-  lane-is k l =
-      ap (λ (t : ℕ). laneOf t k) pixel-is
-      ∙ ap (laneOf (restoredPixel (λ x. getD s₀ x 0) j)) (sym (own-place k l))
-      ∙ sym (packed-byte Bgra8 (restoredPixel (λ x. getD s₀ x 0)) j k l)
+  colours : (k : ℕ) → k < alphaLane → restoredAt s (pixelLanes * j) k ≡ restoredPlace Bgra8 (λ x. getD s₀ x 0) (pixelLanes * j + k)
+  unfolding restoredAt
+  colours k l = ap₂ (λ (c a : ℕ). cutColour c (factorOf true a)) (ahead-is k) (ahead-is alphaLane) ∙ colour-is s₀ small j k l
 
-  pub restore-turn : (b r : Bool) (s′ : List ℕ) → j < m → b ≡ not (eqb (laneOf (restoredAt s (pixelLanes * j)) alphaLane) 255)
-      → s′ ≡ putLanes s (pixelLanes * j) (laneOf (restoredAt s (pixelLanes * j))) → r ≡ (flag || b)
-      → Restoring s₀ s′ m (j + 1) r
-  unfolding clearAfter someClear
-  restore-turn b r s′ t f p q =
+  -- a pixel that is not opaque: three colours are stored, the alpha is kept
+  pub restore-turn : {s′ : List ℕ} → (alphaIn s j ≡ 255 → ⊥) → s′ ≡ putColours s (pixelLanes * j) (restoredAt s (pixelLanes * j)) → Restoring s₀ s′ m (j + 1) true
+  unfolding putColours
+  restore-turn off p =
+      let first = colours 0 (omega arith) ∙ ap (restoredPlace Bgra8 (λ x. getD s₀ x 0)) (add-zero (pixelLanes * j)) in
+      let two = place (store (store (i .bytes) (omega arith) first) (omega arith) (colours 1 (omega arith))) (pixelLanes * j + 2) (omega arith) in
+      let three = place (store two (omega arith) (colours 2 (omega arith))) (pixelLanes * j + alphaLane) (omega arith) in
       record {
-        bytes = rw p (put-next (laneOf (restoredAt s (pixelLanes * j))) j (i .bytes) (omega arith) lane-is);
-        flag-is = rw add-one (q ∙ ap₂ _||_ (i .flag-is) (f ∙ ap (λ (t : ℕ). not (eqb (laneOf t alphaLane) 255)) pixel-is));
+        bytes = rw p (place (keep three (omega arith) (alpha-kept s₀ small j)) (pixelLanes * (j + 1)) (omega arith));
+        flag-is = sym (clear-at (alphaIn s₀) (j + 1) j (omega arith) (λ e. off (ahead-is alphaLane ∙ e)));
+      }
+
+  -- an opaque one is restored already
+  pub opaque-turn : alphaIn s j ≡ 255 → Restoring s₀ s m (j + 1) flag
+  unfolding someClear
+  opaque-turn e =
+      let opaque : alphaIn s₀ j ≡ 255 = sym (ahead-is alphaLane) ∙ e in
+      let kept = opaque-kept s₀ small j opaque in
+      let first = ap (λ (t : ℕ). getD s₀ t 0) (sym (add-zero (pixelLanes * j))) ∙ kept 0 (omega arith) ∙ ap (restoredPlace Bgra8 (λ x. getD s₀ x 0)) (add-zero (pixelLanes * j)) in
+      let two = place (keep (keep (i .bytes) (omega arith) first) (omega arith) (kept 1 (omega arith))) (pixelLanes * j + 2) (omega arith) in
+      let three = place (keep two (omega arith) (kept 2 (omega arith))) (pixelLanes * j + alphaLane) (omega arith) in
+      record {
+        bytes = place (keep three (omega arith) (kept alphaLane (omega arith))) (pixelLanes * (j + 1)) (omega arith);
+        flag-is = rw add-one (i .flag-is ∙ sym (simp (eq-eqb (alphaIn s₀ j) 255 opaque, or-false)));
       }
 
 -- ---- the byte order
@@ -188,14 +179,15 @@ restored-ordered l v m =
     ∙ packed-byte Bgra8 (restoredPixel v) (x / pixelLanes) (placeOf l (x % pixelLanes)) p
     ∙ ap (laneOf (restoredPixel v (x / pixelLanes))) (own-place (placeOf l (x % pixelLanes)) p))
 
--- and its alphas are the restored pixels'
-pub restored-flag : (l : PixelLayout) (s : List ℕ) (m : ℕ) → clearAfter s m ≡ hasAlpha l (tabulate (restoredPlace l (λ x. getD s x 0)) (rowBytes pixelLanes m)) m
-unfolding clearAfter hasAlpha restoredPlace
-restored-flag l s m =
+-- the flag of the restored row is that of the alphas before: restoring changes none
+pub restored-flag : (l : PixelLayout) (s : List ℕ) (m : ℕ) → ((y : ℕ) → getD s y 0 < 256) → someClear (alphaIn s) m ≡ hasAlpha l (tabulate (restoredPlace l (λ x. getD s x 0)) (rowBytes pixelLanes m)) m
+unfolding hasAlpha restoredPlace restoredPixel
+restored-flag l s m small =
     clear-cong _ _ m
     (λ i h.
     let p : placeOf l alphaLane < pixelLanes = place-lt l alphaLane (omega arith) in
     sym
     (getD-tabulate (restoredPlace l (λ x. getD s x 0)) (rowBytes pixelLanes m) (pixelLanes * i + placeOf l alphaLane) (omega arith)
     ∙ packed-byte l (restoredPixel (λ x. getD s x 0)) i (placeOf l alphaLane) p
-    ∙ ap (laneOf (restoredPixel (λ x. getD s x 0) i)) (place-twice l alphaLane (omega arith))))
+    ∙ ap (laneOf (restoredPixel (λ x. getD s x 0) i)) (place-twice l alphaLane (omega arith))
+    ∙ alpha-is s small i))

@@ -1,6 +1,6 @@
 // Pixels of an output row are restored and packed (SCOPE, "A row goes out" and "Lanes"; the Rust: mult_argb with `inverse` and pack_pixels;
 // libwebp's WebPMultARGBRow_C). In place, in passes: restore where a pixel isn't opaque, then the byte order.
-use arithmetic::restore_argb;
+use arithmetic::restore;
 use arithmetic::restore_factors;
 use pixels::Checked;
 use pixels::Flagged;
@@ -9,82 +9,60 @@ use pixels::Refusal;
 use pixels::bad_side;
 use pixels_layout::PixelLayout;
 ghost use mathlib.Core.Path.{_≡_};
-ghost use mathlib.Core.Bool.{_||_, not};
-ghost use Prim.Native.Nat.{_+_, _*_, _^_, _≤_};
-ghost use lib.Dec.{eqb};
-ghost use lib.ListN.{length, getD};
-ghost use Rattle.arithmetic.specs.Matte.{laneOf, restoreFactors};
+ghost use mathlib.Core.Bool.{true};
+ghost use Prim.Native.Nat.{_+_, _≤_, _<_};
+ghost use lib.ListN.{length, getD, set};
+ghost use Rattle.arithmetic.specs.Matte.{factorOf, cutColour, restoreFactors};
 ghost use Rattle.arithmetic.specs.Table.{tabulate};
 ghost use Rattle.pixels.specs.Refusals.{checkedNumber, flaggedNumber, flaggedFlag};
 ghost use Rattle.pixels.specs.Sizes.{pixelLanes, rowBytes};
-ghost use Rattle.pixels_layout.specs.Layout.{alphaLane};
 ghost use Rattle.pixels_layout.specs.Lanes.{restoredPlace};
+ghost use Rattle.pixels_alpha.specs.Alpha.{someClear};
 ghost use Rattle.rows_restoring.specs.Restoring.{restoreNumber, restoredOut, rowFlag};
-ghost use Rattle.rows_restoring.specs.Inner.Restoring.{restoredAt, putLanes, orderedByte, clearAfter};
+ghost use Rattle.rows_restoring.specs.Inner.Restoring.{alphaIn, restoredAt, putColours, orderedByte};
 
-fn either(a: bool, b: bool) -> bool
-    ensures { λ r. ⌜ r ≡ (a || b) ⌝ }
+// Restores the byte at x, a colour under that alpha, by lent factors.
+fn restore_byte(out: &mut [u8], x: usize, alpha: u8, factors: &[u32; 254])
+    requires { ⌜ (x < length (now out)) × (now factors ≡ restoreFactors) ⌝ }
+    ensures { λ _. ⌜ now (out .exit) ≡ set (now (out .entry)) x (cutColour (getD (now (out .entry)) x 0) (factorOf true alpha)) ⌝ }
 {
-    if a {
-        return true;
-    }
-    b
+    out[x] = restore(out[x], alpha, factors) as u8;
 }
 
-// The pixel AARRGGBB of its four lanes.
-fn word(b: u8, g: u8, r: u8, a: u8) -> u32
-    ensures { λ n. ⌜ n ≡ b + 2 ^ 8 * g + 2 ^ 16 * r + 2 ^ 24 * a ⌝ }
-{
-    b as u32 + 256 * g as u32 + 65536 * r as u32 + 16777216 * a as u32
-}
-
-// Stores the lanes of a pixel from at on.
-fn put_word(out: &mut [u8], at: usize, argb: u32)
-    requires { ⌜ at + pixelLanes ≤ length (now out) ⌝ }
-    ensures { λ _. ⌜ now (out .exit) ≡ putLanes (now (out .entry)) at (laneOf argb) ⌝ }
-{
-    out[at] = (argb % 256) as u8;
-    out[at + 1] = (argb / 256 % 256) as u8;
-    out[at + 2] = (argb / 65536 % 256) as u8;
-    out[at + 3] = (argb / 16777216) as u8;
-}
-
-// Restores the pixel at `at` by lent factors; whether its alpha isn't 255 then: a spill can change the alpha.
-fn restore_pixel(out: &mut [u8], at: usize, factors: &[u32; 254]) -> bool
+// Restores the colours of the pixel at `at` by lent factors; its alpha stays.
+fn restore_pixel(out: &mut [u8], at: usize, factors: &[u32; 254])
     requires { ⌜ (at + pixelLanes ≤ length (now out)) × (now factors ≡ restoreFactors) ⌝ }
-    ensures flag { λ r. ⌜ r ≡ not (eqb (laneOf (restoredAt (now (out .entry)) at) alphaLane) 255) ⌝ }
-    ensures out { λ _. ⌜ now (out .exit) ≡ putLanes (now (out .entry)) at (laneOf (restoredAt (now (out .entry)) at)) ⌝ }
+    ensures { λ _. ⌜ now (out .exit) ≡ putColours (now (out .entry)) at (restoredAt (now (out .entry)) at) ⌝ }
 {
-    if out[at + 3] == 255 {
-        return false;
-    }
-    let argb = restore_argb(
-        word(out[at], out[at + 1], out[at + 2], out[at + 3]),
-        factors,
-    );
-    put_word(out, at, argb);
-    argb / 16777216 != 255
+    let alpha = out[at + 3];
+    restore_byte(out, at, alpha, factors);
+    restore_byte(out, at + 1, alpha, factors);
+    restore_byte(out, at + 2, alpha, factors);
 }
 
-// Restores m pixels by lent factors; whether some of them isn't opaque then.
+// Restores m pixels by lent factors; whether some of them isn't opaque. An opaque pixel is restored already.
 fn restore_pixels(out: &mut [u8], m: usize, factors: &[u32; 254]) -> bool
     requires { ⌜ (length (now out) ≡ rowBytes pixelLanes m) × (now factors ≡ restoreFactors) ⌝ }
-    ensures flag { λ r. ⌜ r ≡ clearAfter (now (out .entry)) m ⌝ }
+    ensures flag { λ r. ⌜ r ≡ someClear (alphaIn (now (out .entry))) m ⌝ }
     ensures out { λ _. ⌜ now (out .exit) ≡ tabulate (restoredPlace PixelLayout.Bgra8 (λ x. getD (now (out .entry)) x 0)) (rowBytes pixelLanes m) ⌝ }
 {
     let mut clear = false;
     let mut j = 0usize;
     while j < m {
-        clear = either(clear, restore_pixel(out, PIXEL_LANES * j, factors));
+        let at = PIXEL_LANES * j;
+        if out[at + 3] != 255 {
+            restore_pixel(out, at, factors);
+            clear = true;
+        }
         j += 1;
     }
     clear
 }
 
-// Restores m pixels; whether some of them isn't opaque then. The factors are laid out once for all of them.
+// Restores m pixels; whether some of them isn't opaque. The factors are laid out once for all of them.
 fn restore_lanes(out: &mut [u8], m: usize) -> bool
     requires { ⌜ length (now out) ≡ rowBytes pixelLanes m ⌝ }
-    ensures flag { λ r. ⌜ r ≡ clearAfter (now (out .entry)) m ⌝ }
+    ensures flag { λ r. ⌜ r ≡ someClear (alphaIn (now (out .entry))) m ⌝ }
     ensures out { λ _. ⌜ now (out .exit) ≡ tabulate (restoredPlace PixelLayout.Bgra8 (λ x. getD (now (out .entry)) x 0)) (rowBytes pixelLanes m) ⌝ }
 {
     let factors = restore_factors();
@@ -151,7 +129,7 @@ fn check_restore(target_width: u32, out: usize) -> Checked
 }
 
 // Restores a row of lanes B, G, R, A in place and packs it. The Rust: mult_argb with `inverse` and pack_pixels after Rescaler::export_row.
-// Rules out: a restored colour cut off at 255; two lanes exchanged; a flag that looks at a colour, or at the alpha before a spill.
+// Rules out: a restored colour that spills into the next lane; two lanes exchanged; a flag that looks at a colour, or is always set.
 pub fn restore_row(layout: PixelLayout, target_width: u32, out: &mut [u8]) -> Flagged
     ensures number { λ r. ⌜ flaggedNumber r ≡ restoreNumber «target_width» (length (now (out .entry))) ⌝ }
     ensures flag { λ r. ⌜ flaggedFlag r ≡ rowFlag layout «target_width» (now (out .entry)) ⌝ }

@@ -43,9 +43,10 @@ fn mattes() {
 }
 
 fn restores() {
-    // a restored colour above 255 spills into the next lane, the red one into the alpha
+    // a restored colour stops at 255 in its own lane, and the alpha stays
     word_line(arithmetic::mult_argb(0x0100_0002, true));
     word_line(arithmetic::mult_argb(0x01ff_0000, true));
+    word_line(arithmetic::mult_argb(0x0203_0102, true));
     // alpha 255 unchanged, alpha 0 gives 0
     word_line(arithmetic::mult_argb(0xff12_3456, true));
     word_line(arithmetic::mult_argb(0x0012_3456, false));

@@ -1,85 +1,55 @@
--- `restore_pixel` meets its contract: an opaque pixel is restored already, and any other is what mult_argb makes of its word, by the factors lent. Assumes nothing.
-use lib.ListN.{getD}
-use mathlib.Core.Bool.{true}
-use mathlib.Core.List.{List}
-use mathlib.Core.Path.{_≡_, ap, _∙_}
-use Prim.Native.Nat.{ℕ, _<_}
-use Rattle.arithmetic.specs.Matte.{multArgb, restoredBy}
-use Rattle.arithmetic.proofs.Mattes.{restored-is}
-use Rattle.rows_restoring.proofs.RestoredPixels.{opaque-kept, opaque-flag, pixel-done}
+-- `restore_pixel` meets its contract: the three colours are restored one after another by the alpha read first. Assumes nothing.
+use mathlib.Core.Path.{refl}
+use native.Mathlib.Omega.{arith}
 use borrow.Author.Needs.{needs}
+use Rattle.rows_restoring.proofs.RestoredPixels.{colours-put}
 use Rattle.rows_restoring.proofs.restore_pixel.Statement.{statement}
 use Rattle.rows_restoring.proofs.restore_pixel.Tie as tie
 
-add-if1 : tie.Need-add-if1
-add-if1 c = search needs
+add-alpha : tie.Need-add-alpha
+add-alpha c = search needs
 
-slice-read-if1 : tie.Need-slice-read-if1
-slice-read-if1 c = search needs
+slice-read-alpha : tie.Need-slice-read-alpha
+slice-read-alpha c = search needs
 
-returns : tie.Need-returns
-returns c =
-    let a = c .before .before .before .args in
-    let bytes : (y : ℕ) → getD (a .out .now) y 0 < 256 = λ y. (c .before .before .slice-known) .given y .fits in
-    (opaque-flag (a .out .now) (a .at) bytes (c .if1 .taken), opaque-kept (a .out .now) (a .at) bytes (c .if1 .taken))
+restore-byte-requires : tie.Need-restore-byte-requires
+restore-byte-requires c κs = search needs
 
-slice-read-word : tie.Need-slice-read-word
-slice-read-word c = search needs
+add-restore-byte : tie.Need-add-restore-byte
+add-restore-byte c = search needs
 
-add-word : tie.Need-add-word
-add-word c = search needs
+restore-byte-requires-2 : tie.Need-restore-byte-requires-2
+restore-byte-requires-2 c κs = search needs
 
-slice-read-word-2 : tie.Need-slice-read-word-2
-slice-read-word-2 c = search needs
+add-restore-byte-2 : tie.Need-add-restore-byte-2
+add-restore-byte-2 c = search needs
 
-add-word-2 : tie.Need-add-word-2
-add-word-2 c = search needs
-
-slice-read-word-3 : tie.Need-slice-read-word-3
-slice-read-word-3 c = search needs
-
-add-word-3 : tie.Need-add-word-3
-add-word-3 c = search needs
-
-slice-read-word-4 : tie.Need-slice-read-word-4
-slice-read-word-4 c = search needs
-
-word-requires : tie.Need-word-requires
-word-requires c κs = search needs
-
-restore-argb-requires : tie.Need-restore-argb-requires
-restore-argb-requires c κs = search needs
-
-put-word-requires : tie.Need-put-word-requires
-put-word-requires c κs = search needs
+restore-byte-requires-3 : tie.Need-restore-byte-requires-3
+restore-byte-requires-3 c κs =
+    let first = c .before .before .before .before .before .before .before in
+    (omega (arith, first .restore-byte .kept .0, c .before .before .before .restore-byte2 .kept .0), first .before .before .before .before .pre .1)
 
 same-length : tie.Need-same-length
 same-length c = search needs
 
-returns-2 : tie.Need-returns-2
-returns-2 c =
-    let b = c .before .before .before .before in
-    let start = b .before .before .before .before .before .before .before .before .before in
-    let lent : b .restore-argb .result ≡ multArgb (b .before .word .result) true =
-    b .restore-argb .ensures ∙ ap (λ (factors : List ℕ). restoredBy factors (b .before .word .result)) (start .pre .1) ∙ restored-is (b .before .word .result) in
-    pixel-done (start .args .out .now) (start .args .at) (b .before .word .ensures) lent (b .restore-argb .ok) (c .before .before .put-word .ensures)
+returns : tie.Need-returns
+returns c =
+    let third = c .before .before in
+    let second = third .before .before .before .before in
+    let first = second .before .before .before .before in
+    let a = first .before .before .before .before .args in
+    colours-put (a .out .now) (a .at) refl (first .restore-byte .ensures) (second .restore-byte2 .ensures) (third .restore-byte3 .ensures)
 
 pub restore-pixel-spec : {M : Type 1} → statement M
 restore-pixel-spec =
     tie.close
     (tie.spec
-    add-if1
-    slice-read-if1
-    returns
-    slice-read-word
-    add-word
-    slice-read-word-2
-    add-word-2
-    slice-read-word-3
-    add-word-3
-    slice-read-word-4
-    word-requires
-    restore-argb-requires
-    put-word-requires
+    add-alpha
+    slice-read-alpha
+    restore-byte-requires
+    add-restore-byte
+    restore-byte-requires-2
+    add-restore-byte-2
+    restore-byte-requires-3
     same-length
-    returns-2)
+    returns)

@@ -1,11 +1,14 @@
--- `restore_pixels` meets its contract: each turn restores the next pixel, and the flag is that of the pixels so far. Assumes nothing.
+-- `restore_pixels` meets its contract: each turn restores the next pixel or finds it opaque, and the flag is that of the alphas so far. Assumes nothing.
+use Prim.Native.Nat.{ℕ, _-_, _≤_, _<_}
 use mathlib.Core.Path.{_≡_, ap, _∙_}
-use Rattle.rows_restoring.proofs.RestoredPixels.{Restoring, restore-first, restore-turn}
-use Rattle.arithmetic.proofs.Stores.{same, filled}
-use Rattle.rows_restoring.specs.Inner.Restoring.{clearAfter}
-use Prim.Native.Nat.{_-_, _≤_}
+use mathlib.Core.Logic.{⊎-elim}
 use native.Mathlib.Omega.{arith}
+use lib.ListN.{getD}
 use borrow.Author.Needs.{needs}
+use Rattle.arithmetic.proofs.Stores.{same, filled}
+use Rattle.pixels_alpha.specs.Alpha.{someClear}
+use Rattle.rows_restoring.specs.Inner.Restoring.{alphaIn}
+use Rattle.rows_restoring.proofs.RestoredPixels.{Restoring, restore-first, restore-turn, opaque-turn}
 use Rattle.rows_restoring.proofs.restore_pixels.Statement.{statement}
 use Rattle.rows_restoring.proofs.restore_pixels.Tie as tie
 
@@ -18,14 +21,19 @@ abbrev μ-loop : tie.MeasureT-loop
 loop-holds : tie.Need-loop-holds Inv-loop μ-loop
 loop-holds c = (omega arith, restore-first (c .before .args .out .now) (c .before .args .m) (c .before .pre .0))
 
-mul-restore-pixel : tie.Need-mul-restore-pixel Inv-loop μ-loop
-mul-restore-pixel c = search needs
+mul-at : tie.Need-mul-at Inv-loop μ-loop
+mul-at c = search needs
+
+add-if1 : tie.Need-add-if1 Inv-loop μ-loop
+add-if1 c = search needs
+
+slice-read-if1 : tie.Need-slice-read-if1 Inv-loop μ-loop
+slice-read-if1 c = omega (arith, same (c .before .before .loop .inv .1 .bytes))
 
 restore-pixel-requires : tie.Need-restore-pixel-requires Inv-loop μ-loop
-restore-pixel-requires c κs = (omega (arith, same (c .before .before .loop .inv .1 .bytes)), c .before .before .before .before .pre .1)
-
-either-requires : tie.Need-either-requires Inv-loop μ-loop
-either-requires c κs = search needs
+restore-pixel-requires c κs =
+    let b = c .before .before .before .before in
+    (omega (arith, same (b .loop .inv .1 .bytes)), b .before .before .pre .1)
 
 add-j : tie.Need-add-j Inv-loop μ-loop
 add-j c = search needs
@@ -35,10 +43,14 @@ loop-less c = search needs
 
 loop-again : tie.Need-loop-again Inv-loop μ-loop
 loop-again c =
-    let b = c .before .before .before in (
+    let l = c .before .before .before .loop in
+    let small : (y : ℕ) → getD (c .before .before .before .before .before .args .out .now) y 0 < 256 = λ y. c .before .before .before .before .slice-known .given y .fits in
+    let more = c .before .before .loop-test .taken in (
       omega arith,
-      restore-turn (b .before .before .before .loop .inv .1) (b .restore-pixel .result) (c .either .result) (b .restore-pixel .last .0)
-          (b .before .before .loop-test .taken) (b .restore-pixel .ensures .0) (b .restore-pixel .ensures .1) (c .either .ensures),
+      ⊎-elim
+          (λ w. rw (w .6, w .5) (restore-turn small (l .inv .1) more (w .0 .taken) (w .2 .ensures)))
+          (λ w. rw (w .2, w .1) (opaque-turn small (l .inv .1) more (w .0 .left)))
+          (c .if1 .came),
     )
 
 same-length : tie.Need-same-length Inv-loop μ-loop
@@ -47,10 +59,9 @@ same-length c = same (c .before .loop .inv .1 .bytes)
 returns : tie.Need-returns Inv-loop μ-loop
 returns c =
     let l = c .before .loop in
-    let e : l .j ≡ (c .before .before .before .args) .m = omega arith in (
-      l .inv .1 .flag-is ∙ ap (clearAfter (c .before .before .before .args .out .now)) e,
-      filled (l .inv .1 .bytes) (c .before .before .before .pre .0) (omega arith),
-    )
+    let start = c .before .before .before in
+    let e : l .j ≡ start .args .m = omega arith in
+    (l .inv .1 .flag-is ∙ ap (someClear (alphaIn (start .args .out .now))) e, filled (l .inv .1 .bytes) (start .pre .0) (omega arith))
 
 pub restore-pixels-spec : {M : Type 1} → statement M
 restore-pixels-spec =
@@ -59,9 +70,10 @@ restore-pixels-spec =
     Inv-loop
     μ-loop
     loop-holds
-    mul-restore-pixel
+    mul-at
+    add-if1
+    slice-read-if1
     restore-pixel-requires
-    either-requires
     add-j
     loop-less
     loop-again

@@ -1,8 +1,9 @@
 -- `restore_row` meets its contract: a refusal is handed on; restored in the scaler's order and then put in the layout's, a row is restored and packed. Assumes nothing.
 use Rattle.rows_restoring.proofs.RestoreRow.{restore-exact, restore-refused, restore-done}
+use Prim.Native.Nat.{ℕ, _<_}
 use native.Mathlib.Omega.{arith}
 use mathlib.Core.Path.{sym}
-use lib.ListN.{length}
+use lib.ListN.{length, getD}
 use borrow.Author.Needs.{needs}
 use Rattle.rows_restoring.proofs.restore_row.Statement.{statement}
 use Rattle.rows_restoring.proofs.restore_row.Tie as tie
@@ -33,9 +34,14 @@ same-length : tie.Need-same-length
 same-length c = search needs
 
 returns-2 : tie.Need-returns-2
-returns-2 c = let a = (c .before .before .before .before .before .before .before .before .before .before .before .before .args) in
-    restore-done (a .layout) (a .target-width) (a .out .now) (sym (rw ((c .before .before .before .before .before .before .before .before .enum-told) .given .1) at ((c .before .before .before .before .before .before .before .before .before .before .check-restore) .ensures)))
-    ((c .before .before .before .before .before .before .restore-lanes) .ensures .0) ((c .before .before .before .before .before .before .restore-lanes) .ensures .1) ((c .before .before .order-lanes) .ensures)
+returns-2 c =
+    let made = c .before .before .before .before .before .before in
+    let told = made .before .before in
+    let entry = told .before .before .before in
+    let a = entry .before .args in
+    let small : (y : ℕ) → getD (a .out .now) y 0 < 256 = λ y. entry .slice-known .given y .fits in
+    let goes = sym (rw (told .enum-told .given .1) at (told .before .before .check-restore .ensures)) in
+    restore-done (a .layout) (a .target-width) (a .out .now) small goes (made .restore-lanes .ensures .0) (made .restore-lanes .ensures .1) (c .before .before .order-lanes .ensures)
 
 pub restore-row-spec : {M : Type 1} → statement M
 restore-row-spec =
