@@ -1,6 +1,6 @@
 -- A row restored and put in a layout's order, pixel by pixel: every pixel keeps its alpha and an opaque one its colours, so that the flag is that of the alphas
 -- before; the byte order is the table's. Assumes nothing.
-use Prim.Native.Nat.{ℕ, _+_, _*_, _/_, _%_, _≤_, _<_}
+use Prim.Native.Nat.{ℕ, _+_, _*_, _/_, _%_, _^_, _≤_, _<_}
 use mathlib.Core.Path.{_≡_, refl, sym, ap, ap₂, _∙_}
 use mathlib.Core.Bool.{Bool, true, false, or-false}
 use mathlib.Core.List.{List}
@@ -13,7 +13,7 @@ use borrow.Author.Tests.{eq-eqb}
 use Rattle.arithmetic.specs.Matte.{laneOf, pixelOf, factorOf, cutColour, multArgb}
 use Rattle.arithmetic.specs.Table.{tabulate}
 use Rattle.arithmetic.proofs.Tables.{getD-tabulate, tabulate-cong, tabulate-is}
-use Rattle.arithmetic.proofs.Mattes.{restored-alpha, restored-colour, restored-opaque}
+use Rattle.arithmetic.proofs.Mattes.{lane-byte, lane-high, pixel-lane, restored-alpha, restored-colour, restored-opaque}
 use Rattle.pixels_layout.specs.declared.PixelLayout.{PixelLayout}
 use Rattle.pixels_layout.specs.declared.PixelLayout.the-variants.{Rgba8, Argb8, Bgra8}
 use Rattle.pixels.specs.Sizes.{pixelLanes, rowBytes}
@@ -23,7 +23,7 @@ use Rattle.pixels_alpha.specs.Alpha.{someClear, hasAlpha}
 use Rattle.pixels_layout.proofs.Tabled.{each-lane, place-lt, place-twice}
 use Rattle.pixels_layout.proofs.Packing.{packed-byte}
 use Rattle.pixels_alpha.proofs.Flags.{clear-none, clear-at, clear-cong}
-use Rattle.rows_restoring.specs.Inner.Restoring.{alphaIn, restoredAt, putColours, orderedByte}
+use Rattle.rows_restoring.specs.Inner.Restoring.{alphaIn, restoredAt, putColours, wordAt, putLanes, orderedByte, orderedWord}
 use Rattle.arithmetic.proofs.Stores.{Stored, none-stored, store, store-four, keep, place, ahead}
 
 -- ---- the scaler's own order
@@ -135,26 +135,66 @@ pub record Ordered (l : PixelLayout) (s₀ s : List ℕ) (m j : ℕ) : Type 0 wh
 pub order-first : (l : PixelLayout) (s : List ℕ) (m : ℕ) → length s ≡ rowBytes pixelLanes m → Ordered l s s m 0
 order-first l s m e = record { bytes = none-stored (orderedByte l s) (omega arith) }
 
-module _ {s₀ s : List ℕ} {m j : ℕ} where
-  pub swap-turn : Ordered Rgba8 s₀ s m j → j < m → Ordered Rgba8 s₀ (set (set s (pixelLanes * j) (getD s (pixelLanes * j + 2) 0)) (pixelLanes * j + 2) (getD s (pixelLanes * j) 0)) m (j + 1)
-  swap-turn i t =
-      let at : (x : ℕ) → pixelLanes * j ≤ x → getD s x 0 ≡ getD s₀ x 0 = ahead (i .bytes) in
-      let first : getD s (pixelLanes * j + 2) 0 ≡ orderedByte Rgba8 s₀ (pixelLanes * j) = at (pixelLanes * j + 2) (omega arith) ∙ sym (ordered-byte Rgba8 s₀ j 0 (omega arith)) ∙ ap (orderedByte Rgba8 s₀) (add-zero (pixelLanes * j)) in
-      let third : getD s (pixelLanes * j) 0 ≡ orderedByte Rgba8 s₀ (pixelLanes * j + 2) = at (pixelLanes * j) (omega arith) ∙ ap (λ (x : ℕ). getD s₀ x 0) (sym (add-zero (pixelLanes * j))) ∙ sym (ordered-byte Rgba8 s₀ j 2 (omega arith)) in
-      let a = store (i .bytes) (omega arith) first in
-      let b = place (keep a (omega arith) (sym (ordered-byte Rgba8 s₀ j 1 (omega arith)))) (pixelLanes * j + 2) (omega arith) in
-      let c = place (store b (omega arith) third) (pixelLanes * j + 3) (omega arith) in
-      record { bytes = place (keep c (omega arith) (sym (ordered-byte Rgba8 s₀ j 3 (omega arith)))) (pixelLanes * (j + 1)) (omega arith) }
+-- a pixel read as a word, its lanes put in order and stored
+module _ (l : PixelLayout) {s₀ s : List ℕ} {m j : ℕ} (small : (y : ℕ) → getD s₀ y 0 < 256) (i : Ordered l s₀ s m j) (more : j < m) where
+  abbrev from : ℕ → ℕ
+  from k = getD s (pixelLanes * j + k) 0
 
-  pub reverse-turn : Ordered Argb8 s₀ s m j → j < m
-      → Ordered Argb8 s₀ (set (set (set (set s (pixelLanes * j) (getD s (pixelLanes * j + 3) 0)) (pixelLanes * j + 1) (getD s (pixelLanes * j + 2) 0)) (pixelLanes * j + 2) (getD s (pixelLanes * j + 1) 0)) (pixelLanes * j + 3) (getD s (pixelLanes * j) 0)) m (j + 1)
-  reverse-turn i t =
-      let at : (x : ℕ) → pixelLanes * j ≤ x → getD s x 0 ≡ getD s₀ x 0 = ahead (i .bytes) in
-      let first : getD s (pixelLanes * j + 3) 0 ≡ orderedByte Argb8 s₀ (pixelLanes * j) = at (pixelLanes * j + 3) (omega arith) ∙ sym (ordered-byte Argb8 s₀ j 0 (omega arith)) ∙ ap (orderedByte Argb8 s₀) (add-zero (pixelLanes * j)) in
-      let last : getD s (pixelLanes * j) 0 ≡ orderedByte Argb8 s₀ (pixelLanes * j + 3) = at (pixelLanes * j) (omega arith) ∙ ap (λ (x : ℕ). getD s₀ x 0) (sym (add-zero (pixelLanes * j))) ∙ sym (ordered-byte Argb8 s₀ j 3 (omega arith)) in
-      let second = at (pixelLanes * j + 2) (omega arith) ∙ sym (ordered-byte Argb8 s₀ j 1 (omega arith)) in
-      let third = at (pixelLanes * j + 1) (omega arith) ∙ sym (ordered-byte Argb8 s₀ j 2 (omega arith)) in
-      record { bytes = place (store-four (i .bytes) (omega arith) first second third last) (pixelLanes * (j + 1)) (omega arith) }
+  from-is : (k : ℕ) → from k ≡ getD s₀ (pixelLanes * j + k) 0
+  from-is k = ahead (i .bytes) (pixelLanes * j + k) (omega arith)
+
+  from-byte : (k : ℕ) → k < pixelLanes → from k ≤ 255
+  from-byte k h = rw (from-is k) (le-of-suc-le-suc (small (pixelLanes * j + k)))
+
+  lane-put : {w v : ℕ} → w ≡ wordAt s (pixelLanes * j) → v ≡ orderedWord l w → (k : ℕ) → k < pixelLanes → laneOf v k ≡ orderedByte l s₀ (pixelLanes * j + k)
+  unfolding wordAt orderedWord
+  lane-put {w} p q k h =
+      ap (λ (t : ℕ). laneOf t k) q
+      ∙ pixel-lane (λ n. laneOf w (placeOf l n)) (λ n _. lane-byte w (placeOf l n)) k h
+      ∙ ap (λ (t : ℕ). laneOf t (placeOf l k)) p
+      ∙ pixel-lane from from-byte (placeOf l k) (place-lt l k h)
+      ∙ from-is (placeOf l k)
+      ∙ sym (ordered-byte l s₀ j k h)
+
+  pub order-turn : {w v : ℕ} {s′ : List ℕ} → w ≡ wordAt s (pixelLanes * j) → v ≡ orderedWord l w → s′ ≡ putLanes s (pixelLanes * j) (laneOf v) → Ordered l s₀ s′ m (j + 1)
+  unfolding putLanes
+  order-turn p q e =
+      let lane = lane-put p q in
+      let first = lane 0 (omega arith) ∙ ap (orderedByte l s₀) (add-zero (pixelLanes * j)) in
+      let four = store-four (i .bytes) (omega arith) first (lane 1 (omega arith)) (lane 2 (omega arith)) (lane 3 (omega arith)) in
+      record { bytes = rw e (place four (pixelLanes * (j + 1)) (omega arith)) }
+
+-- the words that the code makes
+pub word-is : (s : List ℕ) (x : ℕ) {w : ℕ} → w ≡ getD s x 0 + 2 ^ 8 * getD s (x + 1) 0 + 2 ^ 16 * getD s (x + 2) 0 + 2 ^ 24 * getD s (x + 3) 0 → w ≡ wordAt s x
+unfolding wordAt pixelOf
+word-is s x e = rw (add-zero x) e
+
+-- each lane as the code takes it from its pixel
+blue-lane : (argb : ℕ) → argb % 256 ≡ laneOf argb 0
+unfolding laneOf
+blue-lane argb = omega arith
+
+green-lane : (argb : ℕ) → argb / 256 % 256 ≡ laneOf argb 1
+unfolding laneOf
+green-lane argb = refl
+
+red-lane : (argb : ℕ) → argb / 65536 % 256 ≡ laneOf argb 2
+unfolding laneOf
+red-lane argb = refl
+
+pub lanes-put : (s : List ℕ) (x argb : ℕ) → argb < 2 ^ 32
+    → set (set (set (set s x (argb % 256)) (x + 1) (argb / 256 % 256)) (x + 2) (argb / 65536 % 256)) (x + 3) (argb / 16777216) ≡ putLanes s x (laneOf argb)
+unfolding putLanes
+lanes-put s x argb h = rw (blue-lane argb, green-lane argb, red-lane argb, ← lane-high argb h)
+
+pub reversed-word : (argb : ℕ) → argb < 2 ^ 32
+    → argb / 16777216 + 256 * (argb / 65536 % 256) + 65536 * (argb / 256 % 256) + 16777216 * (argb % 256) ≡ orderedWord Argb8 argb
+unfolding orderedWord pixelOf
+reversed-word argb h = rw (blue-lane argb, green-lane argb, red-lane argb, ← lane-high argb h)
+
+pub swapped-word : (argb : ℕ) {back : ℕ} → back ≡ orderedWord Argb8 argb → back / 256 + 16777216 * (back % 256) ≡ orderedWord Rgba8 argb
+unfolding orderedWord pixelOf laneOf
+swapped-word argb e = omega arith
 
 -- the scaler's own order
 pub ordered-same : (s : List ℕ) (m : ℕ) → length s ≡ rowBytes pixelLanes m → s ≡ tabulate (orderedByte Bgra8 s) (rowBytes pixelLanes m)

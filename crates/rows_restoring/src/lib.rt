@@ -10,16 +10,42 @@ use pixels::bad_side;
 use pixels_layout::PixelLayout;
 ghost use mathlib.Core.Path.{_≡_};
 ghost use mathlib.Core.Bool.{true};
-ghost use Prim.Native.Nat.{_+_, _≤_, _<_};
+ghost use Prim.Native.Nat.{_+_, _*_, _^_, _≤_, _<_};
 ghost use lib.ListN.{length, getD, set};
-ghost use Rattle.arithmetic.specs.Matte.{factorOf, cutColour, restoreFactors};
+ghost use Rattle.arithmetic.specs.Matte.{laneOf, factorOf, cutColour, restoreFactors};
 ghost use Rattle.arithmetic.specs.Table.{tabulate};
 ghost use Rattle.pixels.specs.Refusals.{checkedNumber, flaggedNumber, flaggedFlag};
 ghost use Rattle.pixels.specs.Sizes.{pixelLanes, rowBytes};
 ghost use Rattle.pixels_layout.specs.Lanes.{restoredPlace};
 ghost use Rattle.pixels_alpha.specs.Alpha.{someClear};
 ghost use Rattle.rows_restoring.specs.Restoring.{restoreNumber, restoredOut, rowFlag};
-ghost use Rattle.rows_restoring.specs.Inner.Restoring.{alphaIn, restoredAt, putColours, orderedByte};
+ghost use Rattle.rows_restoring.specs.Inner.Restoring.{alphaIn, restoredAt, putColours, wordAt, putLanes, orderedByte, orderedWord};
+
+// The pixel AARRGGBB of its lanes.
+fn joined(b: u8, g: u8, r: u8, a: u8) -> u32
+    ensures { λ argb. ⌜ argb ≡ b + 2 ^ 8 * g + 2 ^ 16 * r + 2 ^ 24 * a ⌝ }
+{
+    b as u32 + 256 * g as u32 + 65536 * r as u32 + 16777216 * a as u32
+}
+
+// The pixel whose lanes stand from `at` on.
+fn word(out: &[u8], at: usize) -> u32
+    requires { ⌜ at + pixelLanes ≤ length (now out) ⌝ }
+    ensures { λ r. ⌜ r ≡ wordAt (now (out .entry)) at ⌝ }
+{
+    joined(out[at], out[at + 1], out[at + 2], out[at + 3])
+}
+
+// Stores the lanes of a pixel from `at` on.
+fn put_word(out: &mut [u8], at: usize, argb: u32)
+    requires { ⌜ at + pixelLanes ≤ length (now out) ⌝ }
+    ensures { λ _. ⌜ now (out .exit) ≡ putLanes (now (out .entry)) at (laneOf argb) ⌝ }
+{
+    out[at] = (argb % 256) as u8;
+    out[at + 1] = (argb / 256 % 256) as u8;
+    out[at + 2] = (argb / 65536 % 256) as u8;
+    out[at + 3] = (argb / 16777216) as u8;
+}
 
 // Restores the byte at x, a colour under that alpha, by lent factors.
 fn restore_byte(out: &mut [u8], x: usize, alpha: u8, factors: &[u32; 254])
@@ -69,6 +95,24 @@ fn restore_lanes(out: &mut [u8], m: usize) -> bool
     restore_pixels(out, m, &factors)
 }
 
+// The four lanes reversed. Quotients and remainders: of masks and exchanged bytes the compiler makes no vectors.
+fn reversed(argb: u32) -> u32
+    ensures { λ r. ⌜ r ≡ orderedWord PixelLayout.Argb8 argb ⌝ }
+{
+    argb / 16777216
+        + 256 * (argb / 65536 % 256)
+        + 65536 * (argb / 256 % 256)
+        + 16777216 * (argb % 256)
+}
+
+// Blue and red exchanged: reversed, and the alpha put last again.
+fn swapped(argb: u32) -> u32
+    ensures { λ r. ⌜ r ≡ orderedWord PixelLayout.Rgba8 argb ⌝ }
+{
+    let back = reversed(argb);
+    back / 256 + 16777216 * (back % 256)
+}
+
 // B, G, R, A to R, G, B, A.
 fn swap_lanes(out: &mut [u8], m: usize)
     requires { ⌜ length (now out) ≡ rowBytes pixelLanes m ⌝ }
@@ -77,9 +121,8 @@ fn swap_lanes(out: &mut [u8], m: usize)
     let mut j = 0usize;
     while j < m {
         let at = PIXEL_LANES * j;
-        let b = out[at];
-        out[at] = out[at + 2];
-        out[at + 2] = b;
+        let argb = word(out, at);
+        put_word(out, at, swapped(argb));
         j += 1;
     }
 }
@@ -92,13 +135,8 @@ fn reverse_lanes(out: &mut [u8], m: usize)
     let mut j = 0usize;
     while j < m {
         let at = PIXEL_LANES * j;
-        let b = out[at];
-        let g = out[at + 1];
-        let r = out[at + 2];
-        out[at] = out[at + 3];
-        out[at + 1] = r;
-        out[at + 2] = g;
-        out[at + 3] = b;
+        let argb = word(out, at);
+        put_word(out, at, reversed(argb));
         j += 1;
     }
 }
