@@ -186,14 +186,15 @@ pub lanes-put : (s : List ℕ) (x argb : ℕ) → argb < 2 ^ 32
 unfolding putLanes
 lanes-put s x argb h = rw (blue-lane argb, green-lane argb, red-lane argb, ← lane-high argb h)
 
+pub swapped-word : (argb : ℕ) → argb < 2 ^ 32
+    → argb / 65536 % 256 + 256 * (argb / 256 % 256) + 65536 * (argb % 256) + 16777216 * (argb / 16777216) ≡ orderedWord Rgba8 argb
+unfolding orderedWord pixelOf
+swapped-word argb h = rw (blue-lane argb, green-lane argb, red-lane argb, ← lane-high argb h)
+
 pub reversed-word : (argb : ℕ) → argb < 2 ^ 32
     → argb / 16777216 + 256 * (argb / 65536 % 256) + 65536 * (argb / 256 % 256) + 16777216 * (argb % 256) ≡ orderedWord Argb8 argb
 unfolding orderedWord pixelOf
 reversed-word argb h = rw (blue-lane argb, green-lane argb, red-lane argb, ← lane-high argb h)
-
-pub swapped-word : (argb : ℕ) {back : ℕ} → back ≡ orderedWord Argb8 argb → back / 256 + 16777216 * (back % 256) ≡ orderedWord Rgba8 argb
-unfolding orderedWord pixelOf laneOf
-swapped-word argb e = omega arith
 
 -- the scaler's own order
 pub ordered-same : (s : List ℕ) (m : ℕ) → length s ≡ rowBytes pixelLanes m → s ≡ tabulate (orderedByte Bgra8 s) (rowBytes pixelLanes m)

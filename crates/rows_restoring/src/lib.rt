@@ -137,7 +137,17 @@ fn restore_lanes(out: &mut [u8], m: usize) -> bool
     true
 }
 
-// The four lanes reversed. Quotients and remainders: of masks and exchanged bytes the compiler makes no vectors.
+// Blue and red exchanged. Of quotients and remainders of a word the compiler makes vectors, of exchanged bytes it makes none.
+fn swapped(argb: u32) -> u32
+    ensures { λ r. ⌜ r ≡ orderedWord PixelLayout.Rgba8 argb ⌝ }
+{
+    argb / 65536 % 256
+        + 256 * (argb / 256 % 256)
+        + 65536 * (argb % 256)
+        + 16777216 * (argb / 16777216)
+}
+
+// All four lanes reversed.
 fn reversed(argb: u32) -> u32
     ensures { λ r. ⌜ r ≡ orderedWord PixelLayout.Argb8 argb ⌝ }
 {
@@ -145,14 +155,6 @@ fn reversed(argb: u32) -> u32
         + 256 * (argb / 65536 % 256)
         + 65536 * (argb / 256 % 256)
         + 16777216 * (argb % 256)
-}
-
-// Blue and red exchanged: reversed, and the alpha put last again.
-fn swapped(argb: u32) -> u32
-    ensures { λ r. ⌜ r ≡ orderedWord PixelLayout.Rgba8 argb ⌝ }
-{
-    let back = reversed(argb);
-    back / 256 + 16777216 * (back % 256)
 }
 
 // B, G, R, A to R, G, B, A.

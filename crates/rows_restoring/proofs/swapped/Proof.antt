@@ -1,11 +1,8 @@
--- `swapped` meets its contract: the reversed pixel has its alpha first, and one turn of the lanes puts it last. Assumes nothing.
+-- `swapped` meets its contract: the sum is that of the four lanes, blue and red exchanged. Assumes nothing.
 use borrow.Author.Needs.{needs}
 use Rattle.rows_restoring.proofs.RestoredPixels.{swapped-word}
 use Rattle.rows_restoring.proofs.swapped.Statement.{statement}
 use Rattle.rows_restoring.proofs.swapped.Tie as tie
-
-reversed-requires : tie.Need-reversed-requires
-reversed-requires c κs = search needs
 
 mul-result : tie.Need-mul-result
 mul-result c = search needs
@@ -13,8 +10,22 @@ mul-result c = search needs
 add-result : tie.Need-add-result
 add-result c = search needs
 
+mul-result-2 : tie.Need-mul-result-2
+mul-result-2 c = search needs
+
+add-result-2 : tie.Need-add-result-2
+add-result-2 c = search needs
+
+mul-result-3 : tie.Need-mul-result-3
+mul-result-3 c = search needs
+
+add-result-3 : tie.Need-add-result-3
+add-result-3 c = search needs
+
 returns : tie.Need-returns
-returns c = swapped-word (c .before .args .argb) (c .reversed .ensures)
+returns c = swapped-word (c .args .argb) (c .fits .argb .fits)
 
 pub swapped-spec : {M : Type 1} → statement M
-swapped-spec = tie.close (tie.spec reversed-requires mul-result add-result returns)
+swapped-spec =
+    tie.close
+    (tie.spec mul-result add-result mul-result-2 add-result-2 mul-result-3 add-result-3 returns)
