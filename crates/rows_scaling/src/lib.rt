@@ -177,14 +177,14 @@ fn shrink_row(s: RowScale, used: u32, row: u32, out: &mut [u8], work: &mut [u32]
 }
 
 // The factor from j to the byte. For span 1 it is exactly one, which no word holds; 2^32 - 1 serves: MULT of j and it is j up to 2^31, and beyond it j - 1,
-// which is cut at 255 as j is. So span 1 needs no loop of its own.
+// which is cut at 255 as j is. So span 1 needs no loop of its own. No branch: a factor that comes out of one is no word to the compiler, and each product
+// of the loops becomes two.
 fn factor_up(span: u32) -> u32
+    requires { ⌜ 1 ≤ span ⌝ }
     ensures { λ r. ⌜ r ≡ factorUp span ⌝ }
 {
-    if span == 1 {
-        return 4294967295;
-    }
-    frac(1, span)
+    let q = 4294967296u64 / span as u64;
+    (q - q / 4294967296) as u32
 }
 
 // The height grows: the Rust's export_row_expand; no work value changes. The factor is below 2^31 for spans above 2 alone; the span is tested, for the
