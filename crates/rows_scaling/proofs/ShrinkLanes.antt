@@ -11,6 +11,11 @@ use Rattle.rows.specs.Output.{clamp}
 use Rattle.rows_scaling.specs.Inner.Scaling.{RoomAsks, shrinkLeft, shrinkByte, lowByte}
 use Rattle.arithmetic.proofs.Stores.{Stored, none-stored, store, ahead}
 
+-- f by the step 0
+pub floor-none : (v : ℕ) {step : ℕ} → step ≡ 0 → 0 ≡ FLOOR v step
+unfolding FLOOR
+floor-none v e = rw e (omega arith)
+
 -- both lists, k turns on
 pub record Shrunk (step q w : ℕ) (work₀ out₀ work out : List ℕ) (k : ℕ) : Type 0 where
   pub left : Stored (shrinkLeft step w work₀) work₀ work w k

@@ -14,7 +14,7 @@ ghost use Prim.Native.Nat.{_+_, _*_, _^_, _≤_, _<_};
 ghost use lib.Dec.{ltb};
 ghost use lib.ListN.{length, getD, drop};
 ghost use Rattle.arithmetic.specs.Word.{wrapMul};
-ghost use Rattle.arithmetic.specs.FixedPoint.{MULT, FRAC};
+ghost use Rattle.arithmetic.specs.FixedPoint.{MULT, FLOOR, FRAC};
 ghost use Rattle.arithmetic.specs.Table.{tabulate};
 ghost use Rattle.pixels.specs.Refusals.{checkedNumber};
 ghost use Rattle.rows.specs.Output.{clamp, restDown, ratio, mixed};
@@ -53,7 +53,18 @@ fn byte_by(v: u32, factor: u32, signed: bool) -> u8
     byte_of(mult_fix(v, factor), signed)
 }
 
-// Heights that do not grow: f of each value of the second half replaces the first half, and the byte is made of their difference. The loop of
+// f of a value of the second half. The step 0, that of d = 0, is tested: it is the same for a whole row, so that it gets a loop of its own, as in the Rust,
+// which does not read the second half.
+fn share_of(second: u32, step: u32) -> u32
+    ensures { λ r. ⌜ r ≡ FLOOR second step ⌝ }
+{
+    if step == 0 {
+        return 0;
+    }
+    mult_fix_floor(second, step)
+}
+
+// Heights that do not grow: f of each value of the second half replaces the first half, and the byte is made of their difference. The loops of
 // export_row_shrink.
 fn shrink_lanes(work: &mut [u32], w: usize, step: u32, q: u32, signed: bool, out: &mut [u8])
     requires { ⌜ RoomAsks (now work) (now out) w ⌝ }
@@ -63,7 +74,7 @@ fn shrink_lanes(work: &mut [u32], w: usize, step: u32, q: u32, signed: bool, out
 {
     let mut k = 0usize;
     while k < w {
-        let f = mult_fix_floor(work[w + k], step);
+        let f = share_of(work[w + k], step);
         out[k] = byte_by(wrapping_sub_u32(work[k], f), q, signed);
         work[k] = f;
         k += 1;

@@ -16,17 +16,17 @@ abbrev μ-loop : tie.MeasureT-loop
 loop-holds : tie.Need-loop-holds Inv-loop μ-loop
 loop-holds c = shrink-first (c .before .before .args .step) (c .before .before .args .q) (c .before .before .pre .0)
 
-add-mult-fix-floor : tie.Need-add-mult-fix-floor Inv-loop μ-loop
-add-mult-fix-floor c = search needs
+add-share-of : tie.Need-add-share-of Inv-loop μ-loop
+add-share-of c = search needs
 
-mul-mult-fix-floor : tie.Need-mul-mult-fix-floor Inv-loop μ-loop
-mul-mult-fix-floor c = search needs
+mul-share-of : tie.Need-mul-share-of Inv-loop μ-loop
+mul-share-of c = search needs
 
-slice-read-mult-fix-floor : tie.Need-slice-read-mult-fix-floor Inv-loop μ-loop
-slice-read-mult-fix-floor c = omega (arith, same (c .before .before .loop .inv .left))
+slice-read-share-of : tie.Need-slice-read-share-of Inv-loop μ-loop
+slice-read-share-of c = omega (arith, same (c .before .before .loop .inv .left))
 
-mult-fix-floor-requires : tie.Need-mult-fix-floor-requires Inv-loop μ-loop
-mult-fix-floor-requires c κs = search needs
+share-of-requires : tie.Need-share-of-requires Inv-loop μ-loop
+share-of-requires c κs = search needs
 
 mul-wrapping-sub-u32 : tie.Need-mul-wrapping-sub-u32 Inv-loop μ-loop
 mul-wrapping-sub-u32 c = search needs
@@ -59,8 +59,8 @@ loop-again : tie.Need-loop-again Inv-loop μ-loop
 loop-again c =
     let b = c .before .before in
     let l = b .before .before .before .before .loop in
-    shrink-turn (l .inv) (b .before .before .before .loop-test .taken) (b .before .mult-fix-floor .ok) (c .before .wrapping-sub-u32 .ok)
-    (b .slice-known4 .given (l .k) .fits) (b .before .mult-fix-floor .ensures) (c .before .wrapping-sub-u32 .ensures) (c .byte-by .ensures)
+    shrink-turn (l .inv) (b .before .before .before .loop-test .taken) (b .before .share-of .ok) (c .before .wrapping-sub-u32 .ok)
+    (b .slice-known4 .given (l .k) .fits) (b .before .share-of .ensures) (c .before .wrapping-sub-u32 .ensures) (c .byte-by .ensures)
 
 same-length : tie.Need-same-length Inv-loop μ-loop
 same-length c = same (c .before .loop .inv .left)
@@ -79,10 +79,10 @@ shrink-lanes-spec =
     Inv-loop
     μ-loop
     loop-holds
-    add-mult-fix-floor
-    mul-mult-fix-floor
-    slice-read-mult-fix-floor
-    mult-fix-floor-requires
+    add-share-of
+    mul-share-of
+    slice-read-share-of
+    share-of-requires
     mul-wrapping-sub-u32
     slice-read-wrapping-sub-u32
     wrapping-sub-u32-requires
