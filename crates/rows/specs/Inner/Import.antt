@@ -11,7 +11,7 @@ use Rattle.pixels_layout.specs.declared.Places.{Places}
 use Rattle.pixels.specs.Sizes.{pixelLanes, maxSide, halfValues}
 use Rattle.rows.specs.Lanes.{rowValue}
 use Rattle.rows.specs.WorkRows.{written}
-use Rattle.rows.specs.declared.import.Quad.{Quad}
+use Rattle.rows.specs.declared.Quad.{Quad}
 
 -- ---- four numbers
 abbrev pub at : Quad → ℕ → ℕ

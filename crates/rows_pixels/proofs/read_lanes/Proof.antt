@@ -1,11 +1,11 @@
 -- `read_lanes`: what is read is laneBytes by definition. Assumes nothing.
 use mathlib.Core.Path.{refl}
 use Rattle.rows.specs.Inner.Import.{byteAt, mattedAt, laneBytes}
 use Prim.Native.Nat.{_+_, _*_}
 use native.Mathlib.Omega.{arith}
 use borrow.Author.Needs.{needs}
-use Rattle.rows.proofs.import.read_lanes.Statement.{statement}
-use Rattle.rows.proofs.import.read_lanes.Tie as tie
+use Rattle.rows_pixels.proofs.read_lanes.Statement.{statement}
+use Rattle.rows_pixels.proofs.read_lanes.Tie as tie
 
 mul-alpha : tie.Need-mul-alpha
 mul-alpha c = search needs

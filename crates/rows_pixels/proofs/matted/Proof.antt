@@ -1,8 +1,8 @@
 -- `matted`: what is read is byteAt by definition. Assumes nothing.
 use Rattle.rows.specs.Inner.Import.{byteAt}
 use borrow.Author.Needs.{needs}
-use Rattle.rows.proofs.import.matted.Statement.{statement}
-use Rattle.rows.proofs.import.matted.Tie as tie
+use Rattle.rows_pixels.proofs.matted.Statement.{statement}
+use Rattle.rows_pixels.proofs.matted.Tie as tie
 
 mul-matte : tie.Need-mul-matte
 mul-matte c = search needs

@@ -10,15 +10,15 @@ use Rattle.pixels_layout.specs.declared.Places.{Places}
 use Rattle.pixels.specs.Sizes.{pixelLanes, halfValues}
 use Rattle.pixels_layout.specs.Layout.{placesOf}
 use Rattle.pixels.proofs.Numbers.{buffer-refused}
 use Rattle.rows.specs.WorkRows.{written}
 use Rattle.rows_tests.specs.Tests.{importNumber}
 use Rattle.rows.specs.Import.{importHalf}
 use Rattle.rows.specs.Inner.Import.{Bytes, writtenRow, RowAsks}
 use Rattle.rows.proofs.Importing.{import-written}
 use Rattle.rows.proofs.Layouts.{places-within, matted-row}
 use Rattle.rows_tests.proofs.Passing.{import-of}
-use Rattle.rows.proofs.import.import_row.Statement.{statement}
-use Rattle.rows.proofs.import.import_row.Tie as tie
+use Rattle.rows_pixels.proofs.import_row.Statement.{statement}
+use Rattle.rows_pixels.proofs.import_row.Tie as tie
 
 module _ (layout : PixelLayout) (n m : ℕ) (s half : List ℕ) (p : Places) (e : p ≡ placesOf layout) (bytes : Bytes s) where
   asks : 0 ≡ importNumber pixelLanes n m (length s) (length half) → RowAsks s half n m p

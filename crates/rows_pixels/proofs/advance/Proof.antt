@@ -5,12 +5,12 @@ use mathlib.Core.List.{List}
 use native.Mathlib.Omega.{arith}
 use native.Mathlib.Numerals.{add-one}
 use Rattle.pixels_layout.specs.declared.Places.{Places}
-use Rattle.rows.specs.declared.import.Quad.{Quad}
+use Rattle.rows.specs.declared.Quad.{Quad}
 use Rattle.rows.specs.Inner.Import.{at, Four, laneBytes, PixelAsks, AdvanceAsks, Advances}
 use Rattle.rows.proofs.Lanes.{each, lane-byte}
 use borrow.Author.Needs.{needs}
-use Rattle.rows.proofs.import.advance.Statement.{statement}
-use Rattle.rows.proofs.import.advance.Tie as tie
+use Rattle.rows_pixels.proofs.advance.Statement.{statement}
+use Rattle.rows_pixels.proofs.advance.Tie as tie
 
 module _ {s : List ℕ} {n span step : ℕ} {left right : Quad} {x acc : ℕ} {p : Places} (a : AdvanceAsks s n span step left right x acc p) where
   asks : acc < step → PixelAsks s (x + 1 + 1)

@@ -9,15 +9,15 @@ use Rattle.arithmetic.specs.Word.{wrapAdd, wrapMul}
 use Rattle.arithmetic.specs.Table.{tabulate}
 use Rattle.pixels.specs.Sizes.{pixelLanes}
 use Rattle.pixels_layout.specs.declared.Places.{Places}
-use Rattle.rows.specs.declared.import.Quad.{Quad}
+use Rattle.rows.specs.declared.Quad.{Quad}
 use Rattle.rows.specs.Column.{value}
 use Rattle.rows.specs.WorkRows.{written}
 use Rattle.rows.specs.Lanes.{rowValue}
 use Rattle.rows.specs.Inner.Import.{at, Four, stored, laneBytes, PixelAsks, Stands, AdvanceAsks, Advances, writtenRow, RowAsks}
 use Rattle.rows.proofs.Columns.{lane-grown}
 use Rattle.rows.proofs.Lanes.{each, lane-byte, row-values, put-four, written-length}
-use Rattle.rows.proofs.import.grow_row.Statement.{statement}
-use Rattle.rows.proofs.import.grow_row.Tie as tie
+use Rattle.rows_pixels.proofs.grow_row.Statement.{statement}
+use Rattle.rows_pixels.proofs.grow_row.Tie as tie
 
 record Inv (s : List ℕ) (n m : ℕ) (p : Places) (half₀ half : List ℕ) (left right : Quad) (x acc j : ℕ) : Type 0 where
   so-far : j ≤ m

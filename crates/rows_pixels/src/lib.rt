@@ -1,15 +1,17 @@
 // A row comes in (SCOPE; the Rust: Rescaler::import_row of geometry.rs): matted as its bytes are read, the four lanes at once. Work values wrap.
 use arithmetic::frac;
 use arithmetic::matte;
-use arithmetic::mult_fix;
 use arithmetic::wrapping_mul;
 use pixels::Checked;
 use pixels::PIXEL_LANES;
 use pixels_layout::PixelLayout;
 use pixels_layout::Places;
+use rows::Quad;
+use rows::add4;
+use rows::finish;
+use rows::zero4;
 use rows_tests::check_import;
 use std::num::wrapping_add_u32;
-use std::num::wrapping_sub_u32;
 ghost use mathlib.Core.Path.{_≡_};
 ghost use Prim.Native.Nat.{_+_, _*_, _/_, _≤_, _<_};
 ghost use lib.ListN.{length};
@@ -18,39 +20,8 @@ ghost use Rattle.arithmetic.specs.Word.{wrapAdd, wrapMul};
 ghost use Rattle.pixels.specs.Sizes.{maxSide, pixelLanes};
 ghost use Rattle.pixels.specs.Refusals.{checkedNumber};
 ghost use Rattle.rows_tests.specs.Tests.{importNumber};
-ghost use Rattle.rows.specs.Column.{Finished};
 ghost use Rattle.rows.specs.Import.{importHalf};
 ghost use Rattle.rows.specs.Inner.Import.{at, Four, stored, laneBytes, byteAt, mattedAt, PixelAsks, Within, InLanes, GatherAsks, Gathers, ColumnAsks, Columns, writtenRow, RowAsks, AdvanceAsks, Advances};
-
-// A number for each lane, or for each byte of a pixel.
-struct Quad {
-    a: u32,
-    b: u32,
-    c: u32,
-    d: u32,
-}
-
-fn zero4() -> Quad
-    ensures { λ r. ⌜ Four (λ k. at r k ≡ 0) ⌝ }
-{
-    Quad {
-        a: 0,
-        b: 0,
-        c: 0,
-        d: 0,
-    }
-}
-
-fn add4(x: Quad, y: Quad) -> Quad
-    ensures { λ r. ⌜ Four (λ k. at r k ≡ wrapAdd (at x k) (at y k)) ⌝ }
-{
-    Quad {
-        a: wrapping_add_u32(x.a, y.a),
-        b: wrapping_add_u32(x.b, y.b),
-        c: wrapping_add_u32(x.c, y.c),
-        d: wrapping_add_u32(x.d, y.d),
-    }
-}
 
 // Byte k of pixel x times an alpha.
 fn matted(row: &[u8], x: usize, k: usize, alpha: u8) -> u32
@@ -145,24 +116,6 @@ fn gather(row: &[u8], m: usize, need: usize, from: usize, pa: usize) -> Gathered
         base,
         next: x,
         got,
-    }
-}
-
-// A column's value, and what it carries to the next.
-pub struct Ended {
-    pub value: u32,
-    pub carry: u32,
-}
-
-// The value and the carry of one lane: what `over` parts of the last pixel are goes to the next column. The Rust: frac_part, frow[x_out] and sum of
-// Rescaler::import_row_shrink. Rules out: a carry rounded down; the carry of the total.
-pub fn finish(m: u32, scale: u32, over: u32, sum: u32, last: u32) -> Ended
-    ensures { λ r. ⌜ Finished m scale over sum last (r .value) (r .carry) ⌝ }
-{
-    let part = wrapping_mul(last, over);
-    Ended {
-        value: wrapping_sub_u32(wrapping_mul(sum, m), part),
-        carry: mult_fix(part, scale),
     }
 }
 
