@@ -1,7 +1,6 @@
 // A row comes in (SCOPE; the Rust: Rescaler::import_row of geometry.rs): matted as its bytes are read, the four lanes at once. Work values wrap.
 use arithmetic::frac;
 use arithmetic::matte;
-use arithmetic::wrapping_mul;
 use pixels::Checked;
 use pixels::PIXEL_LANES;
 use pixels_layout::PixelLayout;
@@ -10,18 +9,18 @@ use rows::Quad;
 use rows::add4;
 use rows::finish;
 use rows::zero4;
+use rows_growing::widen_row;
 use rows_tests::check_import;
 use std::num::wrapping_add_u32;
 ghost use mathlib.Core.Path.{_≡_};
 ghost use Prim.Native.Nat.{_+_, _*_, _/_, _≤_, _<_};
 ghost use lib.ListN.{length};
 ghost use Rattle.arithmetic.specs.Matte.{scaleColour, matteFactor};
-ghost use Rattle.arithmetic.specs.Word.{wrapAdd, wrapMul};
 ghost use Rattle.pixels.specs.Sizes.{maxSide, pixelLanes};
 ghost use Rattle.pixels.specs.Refusals.{checkedNumber};
 ghost use Rattle.rows_tests.specs.Tests.{importNumber};
 ghost use Rattle.rows.specs.Import.{importHalf};
-ghost use Rattle.rows.specs.Inner.Import.{at, Four, stored, laneBytes, byteAt, mattedAt, PixelAsks, Within, InLanes, GatherAsks, Gathers, ColumnAsks, Columns, writtenRow, RowAsks, AdvanceAsks, Advances};
+ghost use Rattle.rows.specs.Inner.Import.{at, Four, stored, byteAt, mattedAt, PixelAsks, Within, InLanes, GatherAsks, Gathers, ColumnAsks, Columns, writtenRow, RowAsks};
 
 // Byte k of pixel x times an alpha.
 fn matted(row: &[u8], x: usize, k: usize, alpha: u8) -> u32
@@ -45,21 +44,6 @@ fn read_matted(row: &[u8], x: usize, pa: usize) -> Quad
         b: matted(row, x, 1, alpha),
         c: matted(row, x, 2, alpha),
         d: matted(row, x, 3, alpha),
-    }
-}
-
-// Pixel x as lanes B, G, R, A.
-fn read_lanes(row: &[u8], x: usize, p: Places) -> Quad
-    requires { ⌜ PixelAsks (now row) x ⌝ }
-    requires { ⌜ Within p ⌝ }
-    ensures { λ r. ⌜ Four (λ k. at r k ≡ laneBytes p (now (row .entry)) k x) ⌝ }
-{
-    let alpha = row[PIXEL_LANES * x + p.a];
-    Quad {
-        a: matted(row, x, p.b, alpha),
-        b: matted(row, x, p.g, alpha),
-        c: matted(row, x, p.r, alpha),
-        d: alpha as u32,
     }
 }
 
@@ -204,82 +188,9 @@ fn shrink_row(row: &[u8], n: usize, m: usize, p: Places, half: &mut [u32])
     }
 }
 
-// left×keep + right×rest of one lane. The Rust has right×x_add + (left − right)×accum, which wraps to the same.
-fn blend(left: u32, right: u32, keep: u32, rest: u32) -> u32
-    ensures { λ r. ⌜ r ≡ wrapAdd (wrapMul left keep) (wrapMul right rest) ⌝ }
-{
-    wrapping_add_u32(wrapping_mul(left, keep), wrapping_mul(right, rest))
-}
-
-// Where an output column stands between two pixels: left is pixel x, right the next, and acc of span parts are the left's.
-struct Stand {
-    left: Quad,
-    right: Quad,
-    x: usize,
-    acc: u32,
-}
-
-// Both pixels' parts, lane by lane; `rest` of the parts are the right's.
-fn blend4(s: Stand, rest: u32) -> Quad
-    ensures { λ r. ⌜ Four (λ k. at r k ≡ wrapAdd (wrapMul (at (s .left) k) (s .acc)) (wrapMul (at (s .right) k) rest)) ⌝ }
-{
-    Quad {
-        a: blend(s.left.a, s.right.a, s.acc, rest),
-        b: blend(s.left.b, s.right.b, s.acc, rest),
-        c: blend(s.left.c, s.right.c, s.acc, rest),
-        d: blend(s.left.d, s.right.d, s.acc, rest),
-    }
-}
-
-// One column on: by `step` of the parts, into the next pixel where the left one has fewer.
-fn advance(row: &[u8], span: u32, step: u32, mut s: Stand, p: Places) -> Stand
-    requires { ⌜ AdvanceAsks (now row) (length (now row) / pixelLanes) span step (s .left) (s .right) (s .x) (s .acc) p ⌝ }
-    ensures { λ r. ⌜ Advances (now (row .entry)) (length (now (row .entry)) / pixelLanes) span step p (s .x) (s .acc) (r .left) (r .right) (r .x) (r .acc) ⌝ }
-{
-    let acc = s.acc;
-    if acc < step {
-        let left = s.right;
-        let x = s.x + 1;
-        return Stand {
-            left,
-            right: read_lanes(row, x + 1, p),
-            x,
-            acc: acc + span - step,
-        };
-    }
-    s.acc = acc - step;
-    s
-}
-
-// Every column where the width grows. The Rust: Rescaler::import_row_expand; libwebp: WebPRescalerImportRowExpand_C.
-fn grow_row(row: &[u8], n: usize, m: usize, p: Places, half: &mut [u32])
-    requires { ⌜ RowAsks (now row) (now half) n m p ⌝ }
-    requires { ⌜ n < m ⌝ }
-    ensures { λ _. ⌜ now (half .exit) ≡ writtenRow p n m (now (row .entry)) (now (half .entry)) ⌝ }
-{
-    let span = (m - 1) as u32;
-    let step = (n - 1) as u32;
-    let left = read_lanes(row, 0, p);
-    // The second pixel; of one pixel, itself: no pixel past the crop is read. The Rust: `right` of Rescaler::import_row_expand.
-    let right = read_lanes(row, 1 % n, p);
-    let mut s = Stand {
-        left,
-        right,
-        x: 0,
-        acc: span + step,
-    };
-    let mut j = 0usize;
-    while j < m {
-        s = advance(row, span, step, s, p);
-        let v = blend4(s, span - s.acc);
-        put4(half, j, v);
-        j += 1;
-    }
-}
-
 // One row of the crop, matted as it is read, into a half. A row as wide as the target goes the same way: matting changes it.
 // The Rust: Rescaler::import_row; libwebp: WebPRescalerImportRow.
-// Rules out: a carry rounded down; a colour that is not matted; two lanes exchanged; the whole last pixel taken off; a pixel past the crop read.
+// Rules out: a carry rounded down; a colour that is not matted; two lanes exchanged; the whole last pixel taken off.
 pub fn import_row(
     layout: PixelLayout,
     crop_width: u32,
@@ -290,6 +201,9 @@ pub fn import_row(
     ensures number { λ r. ⌜ checkedNumber r ≡ importNumber pixelLanes «crop_width» «target_width» (length (now (row .entry))) (length (now (half .entry))) ⌝ }
     ensures half { λ _. ⌜ now (half .exit) ≡ importHalf layout «crop_width» «target_width» (now (row .entry)) (now (half .entry)) ⌝ }
 {
+    if crop_width < target_width {
+        return widen_row(layout, crop_width, target_width, row, half);
+    }
     let checked = check_import(
         PIXEL_LANES as u32,
         crop_width,
@@ -303,11 +217,7 @@ pub fn import_row(
             let n = crop_width as usize;
             let m = target_width as usize;
             let p = layout.places();
-            if m <= n {
-                shrink_row(row, n, m, p, half);
-            } else {
-                grow_row(row, n, m, p, half);
-            }
+            shrink_row(row, n, m, p, half);
         }
     }
     checked

@@ -1,4 +1,4 @@
--- What the private functions of src/import.rt ask and ensure: relations between what goes in and what comes out. s are the row's bytes, n pixels of them;
+-- What private functions of the crates that import a row ask and ensure: relations between what goes in and what comes out. s are the row's bytes, n pixels of them;
 -- m is the target's width. The laws of proofs/Columns.antt lead from here to the values of specs/Column.antt. Assumes nothing.
 use Prim.Native.Nat.{ℕ, zero, suc, _+_, _-_, _*_, _≤_, _<_}
 use mathlib.Core.Path.{_≡_}
@@ -111,32 +111,6 @@ pub record Columns (s : List ℕ) (n m scale x debt : ℕ) (carry : Quad) (p : P
   pub made : next * m + debt ≡ x * m + n + debt'
   pub debt-small : debt' < m
   pub each : Four (λ k. LaneColumn (laneBytes p s k) m scale x next debt' (at carry k) (at value k) (at carry' k))
-
--- ---- a column where the width grows
--- left is pixel x, and right the one after it if there is one
-pub record Stands (p : ℕ → ℕ → ℕ) (n : ℕ) (left right : Quad) (x : ℕ) : Type 0 where
-  pub inside : x < n
-  pub left-is : Four (λ k. at left k ≡ p k x)
-  pub right-is : suc x < n → Four (λ k. at right k ≡ p k (suc x))
-  pub right-byte : Four (λ k. at right k ≤ 255)
-
-pub record AdvanceAsks (s : List ℕ) (n span step : ℕ) (left right : Quad) (x acc : ℕ) (p : Places) : Type 0 where
-  pub stands : Stands (laneBytes p s) n left right x
-  pub more : acc < step → suc (suc x) < n
-  pub most : acc ≤ span + step
-  pub span-small : span < maxSide
-  pub step-small : step ≤ span
-  pub n-small : n ≤ maxSide
-  pub whole : pixelLanes * n ≤ length s
-  pub places : Within p
-  pub bytes : Bytes s
-
--- `acc` parts of pixel x are used up, `step` of them a column, and each pixel passed brings `span` more
-pub record Advances (s : List ℕ) (n span step : ℕ) (p : Places) (x acc : ℕ) (left right : Quad) (x' acc' : ℕ) : Type 0 where
-  pub stands : Stands (laneBytes p s) n left right x'
-  pub past : x ≤ x'
-  pub along : acc' + step + x * span ≡ acc + x' * span
-  pub small : acc' ≤ span
 
 -- ---- a row
 

@@ -1,0 +1,57 @@
+-- What the private functions ask and ensure: relations between what goes in and what comes out. Two pixels share span parts, and a column goes on by step
+-- of them. Assumes nothing.
+use Prim.Native.Nat.{ℕ, _+_, _-_, _*_, _%_, _^_, _≤_, _<_}
+use mathlib.Core.Path.{_≡_}
+use mathlib.Core.List.{List, [], _∷_}
+use lib.ListN.{getD}
+use Rattle.arithmetic.specs.Matte.{scaleColour, matteFactor}
+use Rattle.pixels.specs.Sizes.{maxSide}
+use Rattle.pixels_layout.specs.declared.Places.{Places}
+use Rattle.rows.specs.declared.Quad.{Quad}
+use Rattle.rows.specs.Inner.Import.{at, Four, laneBytes, RowAsks}
+
+-- what is or-ed to the alpha for byte k of a pixel whose alpha stands at pa
+abbrev pub wholeAt : ℕ → ℕ → ℕ
+wholeAt pa k = getD (getD ((255 ∷ 0 ∷ 0 ∷ 0 ∷ []) ∷ (0 ∷ 255 ∷ 0 ∷ 0 ∷ []) ∷ (0 ∷ 0 ∷ 255 ∷ 0 ∷ []) ∷ (0 ∷ 0 ∷ 0 ∷ 255 ∷ []) ∷ []) pa []) k 0
+
+-- nothing for a colour, all bits for the alpha itself
+pub record Owns (none all : ℕ) : Type 0 where
+  pub none-is : none ≡ 0
+  pub all-is : all ≡ 255
+
+-- the alpha where nothing is or-ed to it, and 255 where all bits are
+pub record Factor (alpha own r : ℕ) : Type 0 where
+  pub most : r ≤ 255
+  pub none : own ≡ 0 → r ≡ alpha
+  pub all : own ≡ 255 → r ≡ 255
+
+-- so a colour is matted and the alpha stays
+pub record Toned (byte alpha own r : ℕ) : Type 0 where
+  pub colour-is : own ≡ 0 → r ≡ scaleColour byte (matteFactor alpha)
+  pub alpha-is : own ≡ 255 → r ≡ byte
+
+-- a byte, and parts of a width
+pub record ShareAsks (byte parts : ℕ) : Type 0 where
+  pub byte-small : byte ≤ 255
+  pub parts-small : parts < maxSide
+
+pub record BetweenAsks (left : Quad) (acc rest : ℕ) : Type 0 where
+  pub bytes : Four (λ k. at left k ≤ 255)
+  pub acc-small : acc < maxSide
+  pub rest-small : rest < maxSide
+
+-- one lane of a column between two pixels, l and r: acc of span parts are the left one's, the rest the right one's. The next column in the pair is less by
+-- the fall, which is l × step - r × step modulo 2^32
+pub record LaneStands (l r acc span step value fall : ℕ) : Type 0 where
+  pub value-is : value + r * acc ≡ l * acc + r * span
+  pub fall-is : (fall + r * step) % 2 ^ 32 ≡ l * step
+  pub fall-word : fall < 2 ^ 32
+
+-- a row begun: `right` is the second pixel (of one pixel, itself), value and fall are the first column's
+pub record GrowAsks (s half : List ℕ) (p : Places) (n m span step : ℕ) (right fall value : Quad) : Type 0 where
+  pub row : RowAsks s half n m p
+  pub grows : n < m
+  pub span-is : span ≡ m - 1
+  pub step-is : step ≡ n - 1
+  pub right-is : Four (λ k. at right k ≡ laneBytes p s k (0 + 1 % n))
+  pub lanes : Four (λ k. LaneStands (laneBytes p s k 0) (laneBytes p s k (0 + 1 % n)) span span step (at value k) (at fall k))
