@@ -2,33 +2,16 @@
 -- of them. Assumes nothing.
 use Prim.Native.Nat.{ℕ, _+_, _-_, _*_, _%_, _^_, _≤_, _<_}
 use mathlib.Core.Path.{_≡_}
-use mathlib.Core.List.{List, [], _∷_}
-use lib.ListN.{getD}
-use Rattle.arithmetic.specs.Matte.{scaleColour, matteFactor}
+use mathlib.Core.List.{List}
 use Rattle.pixels.specs.Sizes.{maxSide}
 use Rattle.pixels_layout.specs.declared.Places.{Places}
 use Rattle.rows.specs.declared.Quad.{Quad}
 use Rattle.rows.specs.Inner.Import.{at, Four, laneBytes, RowAsks}
 
--- what is or-ed to the alpha for byte k of a pixel whose alpha stands at pa
-abbrev pub wholeAt : ℕ → ℕ → ℕ
-wholeAt pa k = getD (getD ((255 ∷ 0 ∷ 0 ∷ 0 ∷ []) ∷ (0 ∷ 255 ∷ 0 ∷ 0 ∷ []) ∷ (0 ∷ 0 ∷ 255 ∷ 0 ∷ []) ∷ (0 ∷ 0 ∷ 0 ∷ 255 ∷ []) ∷ []) pa []) k 0
-
--- nothing for a colour, all bits for the alpha itself
+-- what is or-ed to the alpha: nothing for a colour, all bits for the alpha itself
 pub record Owns (none all : ℕ) : Type 0 where
   pub none-is : none ≡ 0
   pub all-is : all ≡ 255
-
--- the alpha where nothing is or-ed to it, and 255 where all bits are
-pub record Factor (alpha own r : ℕ) : Type 0 where
-  pub most : r ≤ 255
-  pub none : own ≡ 0 → r ≡ alpha
-  pub all : own ≡ 255 → r ≡ 255
-
--- so a colour is matted and the alpha stays
-pub record Toned (byte alpha own r : ℕ) : Type 0 where
-  pub colour-is : own ≡ 0 → r ≡ scaleColour byte (matteFactor alpha)
-  pub alpha-is : own ≡ 255 → r ≡ byte
 
 -- a byte, and parts of a width
 pub record ShareAsks (byte parts : ℕ) : Type 0 where

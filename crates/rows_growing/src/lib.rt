@@ -10,6 +10,7 @@ use pixels_layout::PixelLayout;
 use pixels_layout::Places;
 use rows::Quad;
 use rows::add4;
+use rows::own_at;
 use rows::sub4;
 use rows::times4;
 use rows_tests::check_import;
@@ -22,39 +23,26 @@ ghost use Rattle.pixels.specs.Refusals.{checkedNumber};
 ghost use Rattle.pixels_layout.specs.declared.PixelLayout.the-variants.{Rgba8, Argb8, Bgra8};
 ghost use Rattle.pixels_layout.specs.Layout.{placesOf};
 ghost use Rattle.rows_tests.specs.Tests.{importNumber};
+ghost use Rattle.rows.specs.Tones.{orred, toned};
 ghost use Rattle.rows.specs.Inner.Import.{at, Four, stored, byteAt, laneBytes, PixelAsks, Within, writtenRow, RowAsks};
 ghost use Rattle.rows_growing.specs.Growing.{grownHalf};
-ghost use Rattle.rows_growing.specs.Inner.{wholeAt, Owns, Factor, Toned, ShareAsks, BetweenAsks, GrowAsks};
+ghost use Rattle.rows_growing.specs.Inner.{Owns, ShareAsks, BetweenAsks, GrowAsks};
 
 // ---- a pixel
-
-// For each place of the alpha: what is or-ed to the alpha to make the factor of each byte. A byte times 255 stays what it is, so the alpha needs no case.
-const WHOLE: [[u16; 4]; 4] = [
-    [255, 0, 0, 0],
-    [0, 255, 0, 0],
-    [0, 0, 255, 0],
-    [0, 0, 0, 255],
-];
-
-fn whole(pa: usize, k: usize) -> u16
-    requires { ⌜ (pa < pixelLanes) × (k < pixelLanes) ⌝ }
-    ensures { λ r. ⌜ r ≡ wholeAt pa k ⌝ }
-{
-    WHOLE[pa][k]
-}
 
 // The alpha for a colour, 255 for the alpha itself.
 fn factor(alpha: u8, own: u16) -> u16
     requires { ⌜ own ≤ 255 ⌝ }
-    ensures { λ r. ⌜ Factor alpha own r ⌝ }
+    ensures is { λ r. ⌜ r ≡ orred alpha own ⌝ }
+    ensures small { λ r. ⌜ r ≤ 255 ⌝ }
 {
     alpha as u16 | own
 }
 
-// A byte matted in 16 bits: t is at most 65153, and t×257 / 65536 = (t + t / 256) / 256.
+// rows::tone without its remainder, which costs these loops their vectors.
 fn tone(byte: u8, alpha: u8, own: u16) -> u32
     requires { ⌜ own ≤ 255 ⌝ }
-    ensures { λ r. ⌜ Toned byte alpha own r ⌝ }
+    ensures { λ r. ⌜ r ≡ toned byte alpha own ⌝ }
 {
     let t = byte as u16 * factor(alpha, own) + 128;
     t as u32 * 257 / 65536
@@ -273,8 +261,10 @@ fn grow(layout: PixelLayout, row: &[u8], n: usize, m: usize, half: &mut [u32])
     ensures { λ _. ⌜ now (half .exit) ≡ writtenRow (placesOf layout) n m (now (row .entry)) (now (half .entry)) ⌝ }
 {
     let p = layout.places();
-    let none = whole(p.a, p.b);
-    let all = whole(p.a, p.a);
+    // The alpha stands first or last.
+    let own = own_at(p.a);
+    let none = own.b;
+    let all = own.a + own.d;
     let span = (m - 1) as u32;
     let step = (n - 1) as u32;
     let left = read(row, 0, p, none, all);

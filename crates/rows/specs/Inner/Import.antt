@@ -11,6 +11,7 @@ use Rattle.pixels_layout.specs.declared.Places.{Places}
 use Rattle.pixels.specs.Sizes.{pixelLanes, maxSide, halfValues}
 use Rattle.rows.specs.Lanes.{rowValue}
 use Rattle.rows.specs.WorkRows.{written}
+use Rattle.rows.specs.declared.Oct.{Oct}
 use Rattle.rows.specs.declared.Quad.{Quad}
 
 -- ---- four numbers
@@ -26,6 +27,22 @@ pub record Four (P : ℕ → Type 0) : Type 0 where
   pub l1 : P 1
   pub l2 : P 2
   pub l3 : P 3
+
+-- ---- eight numbers, byte k of the first (h is 0) or the second of two pixels: those of the first of two pixels, then those of the second
+abbrev pub octAt : Oct → ℕ → ℕ → ℕ
+octAt o zero zero = o .a
+octAt o zero (suc zero) = o .b
+octAt o zero (suc (suc zero)) = o .c
+octAt o zero (suc (suc (suc k))) = o .d
+octAt o (suc h) zero = o .e
+octAt o (suc h) (suc zero) = o .f
+octAt o (suc h) (suc (suc zero)) = o .g
+octAt o (suc h) (suc (suc (suc k))) = o .h
+
+-- what holds of each
+pub record Eight (P : ℕ → ℕ → Type 0) : Type 0 where
+  pub even : Four (P 0)
+  pub odd : Four (P 1)
 
 -- stored at column j of a half
 abbrev pub stored : List ℕ → ℕ → Quad → List ℕ

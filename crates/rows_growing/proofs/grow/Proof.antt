@@ -9,18 +9,13 @@ use Rattle.rows_growing.proofs.grow.Tie as tie
 places-requires : tie.Need-places-requires
 places-requires c κs = tt
 
-whole-requires : tie.Need-whole-requires
-whole-requires c κs =
-    let g = c .before .before .before in
-    let p = places-in (g .args .layout) (c .places .ensures) (g .pre .0) in
-    (p .a-in, p .b-in)
+own-at-requires : tie.Need-own-at-requires
+own-at-requires c κs = tt
 
-whole-requires-2 : tie.Need-whole-requires-2
-whole-requires-2 c κs =
-    let k = c .before in
-    let g = k .before .before .before in
-    let p = places-in (g .args .layout) (k .places .ensures) (g .pre .0) in
-    (p .a-in, p .a-in)
+add-all : tie.Need-add-all
+add-all c =
+    let k = c .before .before in
+    omega (arith, owns-of (k .before .before .before .args .layout) (k .places .ensures) (c .before .own-at .ensures) .all-is)
 
 sub-span : tie.Need-sub-span
 sub-span c = omega (arith, c .before .before .before .before .before .pre .0 .m-pos)
@@ -40,7 +35,7 @@ read-requires c κs =
     let e = k .places .ensures in
     let g = k .before .before .before in
     let layout = g .args .layout in
-    (first-pixel layout e (g .pre .0), (places-in layout e (g .pre .0), owns-of layout e (c .before .whole .ensures) (c .whole2 .ensures)))
+    (first-pixel layout e (g .pre .0), (places-in layout e (g .pre .0), owns-of layout e (c .before .own-at .ensures)))
 
 rem-read : tie.Need-rem-read
 rem-read c = c .before .before .before .before .before .before .pre .0 .n-pos
@@ -52,7 +47,7 @@ read-requires-2 c κs =
     let e = k .places .ensures in
     let g = k .before .before .before in
     let layout = g .args .layout in
-    (second-pixel layout e (g .pre .0), (places-in layout e (g .pre .0), owns-of layout e (w .before .whole .ensures) (w .whole2 .ensures)))
+    (second-pixel layout e (g .pre .0), (places-in layout e (g .pre .0), owns-of layout e (w .before .own-at .ensures)))
 
 fall-of-requires : tie.Need-fall-of-requires
 fall-of-requires c κs = tt
@@ -73,7 +68,7 @@ grow-rgba-requires c κs =
     let k = w .before .before in
     let g = k .before .before .before in (
       grow-asks (g .args .layout) (k .places .ensures) (g .pre .0) (c .before .enum-told .given .1) (g .pre .1) (v .before .before .before .read .ensures) (v .before .before .read2 .ensures) (v .before .fall-of .ensures) (v .between .ensures),
-      owns-of (g .args .layout) (k .places .ensures) (w .before .whole .ensures) (w .whole2 .ensures),
+      owns-of (g .args .layout) (k .places .ensures) (w .before .own-at .ensures),
     )
 
 enum-told-2 : tie.Need-enum-told-2
@@ -86,7 +81,7 @@ grow-argb-requires c κs =
     let k = w .before .before in
     let g = k .before .before .before in (
       grow-asks (g .args .layout) (k .places .ensures) (g .pre .0) (c .before .enum-told2 .given .1) (g .pre .1) (v .before .before .before .read .ensures) (v .before .before .read2 .ensures) (v .before .fall-of .ensures) (v .between .ensures),
-      owns-of (g .args .layout) (k .places .ensures) (w .before .whole .ensures) (w .whole2 .ensures),
+      owns-of (g .args .layout) (k .places .ensures) (w .before .own-at .ensures),
     )
 
 enum-told-3 : tie.Need-enum-told-3
@@ -99,7 +94,7 @@ grow-bgra-requires c κs =
     let k = w .before .before in
     let g = k .before .before .before in (
       grow-asks (g .args .layout) (k .places .ensures) (g .pre .0) (c .before .enum-told3 .given .1) (g .pre .1) (v .before .before .before .read .ensures) (v .before .before .read2 .ensures) (v .before .fall-of .ensures) (v .between .ensures),
-      owns-of (g .args .layout) (k .places .ensures) (w .before .whole .ensures) (w .whole2 .ensures),
+      owns-of (g .args .layout) (k .places .ensures) (w .before .own-at .ensures),
     )
 
 same-length : tie.Need-same-length
@@ -134,8 +129,8 @@ grow-spec =
     tie.close
     (tie.spec
     places-requires
-    whole-requires
-    whole-requires-2
+    own-at-requires
+    add-all
     sub-span
     cast-span
     sub-step

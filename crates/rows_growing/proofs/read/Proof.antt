@@ -1,5 +1,6 @@
 -- `read`: three colours matted and the alpha, as laneBytes has them. Assumes nothing.
-use Rattle.rows_growing.proofs.Tones.{toned-colour, toned-alpha}
+use native.Mathlib.Omega.{arith}
+use Rattle.rows_growing.proofs.Tones.{read-colour, read-alpha}
 use Rattle.rows.specs.Inner.Import.{mattedAt, laneBytes}
 use borrow.Author.Needs.{needs}
 use Rattle.rows_growing.proofs.read.Statement.{statement}
@@ -36,10 +37,10 @@ returns c =
     let alpha = k .before .before .byte .ensures in
     let owns = k .before .before .before .before .pre .1 .1 in
     record {
-      l0 = toned-colour (k .tone .ensures) (owns .none-is) (k .before .byte2 .ensures) alpha;
-      l1 = toned-colour (c .before .before .before .tone2 .ensures) (owns .none-is) (c .before .before .before .before .byte3 .ensures) alpha;
-      l2 = toned-colour (c .before .tone3 .ensures) (owns .none-is) (c .before .before .byte4 .ensures) alpha;
-      l3 = toned-alpha (c .tone4 .ensures) (owns .all-is) alpha;
+      l0 = read-colour (k .tone .ensures) (owns .none-is) (k .before .byte2 .ensures) alpha;
+      l1 = read-colour (c .before .before .before .tone2 .ensures) (owns .none-is) (c .before .before .before .before .byte3 .ensures) alpha;
+      l2 = read-colour (c .before .tone3 .ensures) (owns .none-is) (c .before .before .byte4 .ensures) alpha;
+      l3 = read-alpha (c .tone4 .ensures) (owns .all-is) (omega arith) alpha;
     }
 
 pub read-spec : {M : Type 1} → statement M
