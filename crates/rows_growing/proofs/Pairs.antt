@@ -19,19 +19,14 @@ use Rattle.rows_growing.specs.Inner.{ShareAsks, LaneStands}
 part-most : {b p : ℕ} → b ≤ 255 → p ≤ 16384 → b * p ≤ 4177920
 part-most {b} {p} hb hp = mul-le-mul {n₁ = b} {m₁ = p} {n₂ = 255} {m₂ = 16384} hb hp
 
-pub share-fits : (b p : ℕ) → (b % 256) * (p % 32768) < 2 ^ 32
-share-fits b p =
-    let most : (b % 256) * (p % 32768) ≤ 255 * 32767 = mul-le-mul {n₁ = b % 256} {m₁ = p % 32768} {n₂ = 255} {m₂ = 32767} (omega arith) (omega arith) in
-    omega (arith, most)
-
-pub share-is : (b p : ℕ) → ShareAsks b p → (b % 256) * (p % 32768) % 4194304 ≡ wrapMul b p
-share-is b p a =
+pub share-is : (b p r : ℕ) → ShareAsks b p → r ≡ wrapMul (b % 256) (p % 32768) → r % 4194304 ≡ wrapMul b p
+share-is b p r a e =
     let hb : b % 256 ≡ b = omega (arith, a .byte-small) in
     let hp : p % 32768 ≡ p = omega (arith, a .parts-small) in
     let most : b * p ≤ 255 * 16383 = mul-le-mul {n₁ = b} {m₁ = p} {n₂ = 255} {m₂ = 16383} (a .byte-small) (omega (arith, a .parts-small)) in
-    ap₂ (λ (u t : ℕ). u * t % 4194304) hb hp ∙ cut (b * p) most
+    ap (λ (t : ℕ). t % 4194304) (e ∙ ap₂ wrapMul hb hp) ∙ cut (b * p) most
   where
-    cut : (t : ℕ) → t ≤ 255 * 16383 → t % 4194304 ≡ t % 2 ^ 32
+    cut : (t : ℕ) → t ≤ 255 * 16383 → t % 2 ^ 32 % 4194304 ≡ t % 2 ^ 32
     cut t h = omega arith
 
 -- four lanes, by what the calls say

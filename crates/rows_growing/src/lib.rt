@@ -4,6 +4,7 @@
 // What keeps the four lanes one vector: a function for each layout with its places written out (bytes at places that vary are read one by one); Quads
 // assigned one by one (a struct of several is taken apart); the alpha matted too, by a 255 out of a table (one that the compiler sees makes that lane unlike
 // the others); remainders that change nothing and tell how small a factor is (one product of 16 bits then does for six steps in 32).
+use arithmetic::wrapping_mul;
 use pixels::Checked;
 use pixels::PIXEL_LANES;
 use pixels_layout::PixelLayout;
@@ -80,7 +81,7 @@ fn share(byte: u32, parts: u32) -> u32
     requires { ⌜ ShareAsks byte parts ⌝ }
     ensures { λ r. ⌜ r ≡ wrapMul byte parts ⌝ }
 {
-    (byte % 256) * (parts % 32768) % 4194304
+    wrapping_mul(byte % 256, parts % 32768) % 4194304
 }
 
 // acc parts of the left pixel, rest of the right one.

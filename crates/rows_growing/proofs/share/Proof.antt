@@ -1,14 +1,14 @@
 -- `share`: no remainder changes anything (`share-is`). Assumes nothing.
-use native.Mathlib.Omega.{arith}
-use Rattle.rows_growing.proofs.Pairs.{share-fits, share-is}
+use Rattle.rows_growing.proofs.Pairs.{share-is}
+use borrow.Author.Needs.{needs}
 use Rattle.rows_growing.proofs.share.Statement.{statement}
 use Rattle.rows_growing.proofs.share.Tie as tie
 
-mul-result : tie.Need-mul-result
-mul-result c = omega (arith, share-fits (c .args .byte) (c .args .parts))
+wrapping-mul-requires : tie.Need-wrapping-mul-requires
+wrapping-mul-requires c κs = search needs
 
 returns : tie.Need-returns
-returns c = share-is (c .args .byte) (c .args .parts) (c .pre)
+returns c = share-is (c .before .args .byte) (c .before .args .parts) _ (c .before .pre) (c .wrapping-mul .ensures)
 
 pub share-spec : {M : Type 1} → statement M
-share-spec = tie.close (tie.spec mul-result returns)
+share-spec = tie.close (tie.spec wrapping-mul-requires returns)
