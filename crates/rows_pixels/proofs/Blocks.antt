@@ -113,11 +113,6 @@ module _ {s half₀ half : List ℕ} {n m : ℕ} {p : Places} {carry : Quad} {x 
 pub row-at : (layout : PixelLayout) {s half : List ℕ} {n m : ℕ} {p : Places} → RowAsks s half n m (placesOf layout) → p ≡ placesOf layout → RowAsks s half n m p
 row-at layout {s = s} {half = half} {n = n} {m = m} a e = subst (λ (q : Places). RowAsks s half n m q) (sym e) a
 
-pub small-asks : {s half : List ℕ} {n m : ℕ} {p : Places} → RowAsks s half n m p → n / m ≡ 1 → n < 2 * m
-small-asks {n = n} {m = m} a e =
-    let once : n / m * m ≡ 1 * m = ap (λ (q : ℕ). q * m) e in
-    omega (arith, once, div-high n m (a .m-pos))
-
 pub block-asks : {layout : PixelLayout} {s half : List ℕ} {n m : ℕ} {p : Places} → RowAsks s half n m (placesOf layout) → m ≤ n → n / m < 512 → p ≡ placesOf layout
     → BlockAsks layout n m p
 block-asks {n = n} {m = m} a shrinks l e =

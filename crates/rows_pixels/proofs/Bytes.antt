@@ -1,18 +1,14 @@
 -- The four bytes of a pixel side by side: pixels summed, and a column's end put into lanes. Assumes nothing.
 use Prim.Native.Nat.{ℕ, zero, suc, _+_, _-_, _*_, _%_, _≤_, _<_}
 use mathlib.Core.Path.{_≡_, refl, sym, ap, ap₂, _∙_}
-use mathlib.Core.Logic.{_⊎_, inl, inr}
 use mathlib.Core.List.{List, [], _∷_}
 use native.Mathlib.Omega.{arith}
 use native.Mathlib.Nat.{mod-eq-of-lt}
-use native.Mathlib.Numerals.{add-one}
 use lib.ListN.{length, getD}
 use Rattle.arithmetic.specs.FixedPoint.{MULT}
 use Rattle.arithmetic.specs.Sum.{sum}
 use Rattle.arithmetic.specs.Word.{wrapAdd, wrapSub, wrapMul}
-use Rattle.arithmetic.proofs.Sums.{sum-zero, sum-suc, sum-one, sum-most}
-use Rattle.arithmetic.proofs.Orders.{le-or-lt}
-use Rattle.arithmetic.proofs.Words.{wrapAdd-exact}
+use Rattle.arithmetic.proofs.Sums.{sum-suc, sum-step, sum-none-yet}
 use Rattle.pixels.specs.Sizes.{pixelLanes}
 use Rattle.pixels_layout.specs.declared.Places.{Places}
 use Rattle.rows.specs.declared.Own.{Own}
@@ -20,9 +16,8 @@ use Rattle.rows.specs.declared.Quad.{Quad}
 use Rattle.rows.specs.Column.{Finished}
 use Rattle.rows.specs.Tones.{tonedAt}
 use Rattle.rows.specs.Inner.Import.{at, Four, stored, PixelAsks, Within}
-use Rattle.rows.proofs.Lanes.{each, three, four-at}
-use Rattle.rows.proofs.Tones.{tonedAt-byte}
-use Rattle.rows_pixels.specs.Inner.{InLanes, inLanes, First, SumAsks, EndAsks, endValue, endCarry}
+use Rattle.rows.proofs.Lanes.{each, both, three, four-at}
+use Rattle.rows_pixels.specs.Inner.{InLanes, inLanes, TotalAsks, EndAsks, endValue, endCarry}
 
 -- ---- four numbers as an array
 pub four-of : (q : Quad) (k : ℕ) → k < pixelLanes → getD (q .a ∷ q .b ∷ q .c ∷ q .d ∷ []) k 0 ≡ at q k
@@ -32,65 +27,60 @@ four-of q (suc (suc zero)) h = refl
 four-of q (suc (suc (suc zero))) h = refl
 four-of q (suc (suc (suc (suc k)))) h = absurd (omega arith)
 
--- ---- pixels summed: i of `count` from pixel `from` on
-pub record Summed (s : List ℕ) (from count place : ℕ) (total : Quad) (i : ℕ) : Type 0 where
-  so-far : i ≤ count
-  sums : Four (λ k. at total k ≡ sum (tonedAt s place k) from i)
+-- ---- a column's total: to what carry and last pixel make, the pixels from `from` on up to pixel x are added
+pub record Totalled (s : List ℕ) (from to place : ℕ) (total₀ total : Quad) (x : ℕ) : Type 0 where
+  past : from ≤ x
+  pub so-far : x < to
+  totals : Four (λ k. at total k ≡ wrapAdd (at total₀ k) (sum (tonedAt s place k) from (x - from)))
 
-pub summed-first : {s : List ℕ} {from count place : ℕ} {total : Quad} → Four (λ k. at total k ≡ 0) → Summed s from count place total 0
-summed-first {s} {from} {count} {place} z = record { so-far = omega arith; sums = each (λ k e. e ∙ sym (sum-zero (tonedAt s place k) from)) z }
-
-pub summed-pixel : {s : List ℕ} {from count place i : ℕ} {o : Own} → SumAsks s from count place o → i < count → PixelAsks s (from + i)
-summed-pixel a l = record { whole = omega (arith, a .whole); small = omega (arith, a .small) }
-
--- bytes: no sum wraps
-module _ {s : List ℕ} {from count place i : ℕ} {o : Own} {total : Quad} (a : SumAsks s from count place o) (v : Summed s from count place total i) (l : i < count) where
-  lane-more : (k t p t' : ℕ) → t ≡ sum (tonedAt s place k) from i → p ≡ tonedAt s place k (from + i) → t' ≡ wrapAdd t p
-      → t' ≡ sum (tonedAt s place k) from (i + 1)
-  lane-more k t p t' t-is p-is e =
-      let most : sum (tonedAt s place k) from i ≤ i * 255 = sum-most (tonedAt s place k) 255 from i (λ x _ _. tonedAt-byte s (a .bytes) place k x) in
-      let byte : tonedAt s place k (from + i) ≤ 255 = tonedAt-byte s (a .bytes) place k (from + i) in
-      e
-      ∙ wrapAdd-exact t p (omega (arith, a .small))
-      ∙ ap₂ _+_ t-is p-is
-      ∙ sym (sum-suc (tonedAt s place k) from i)
-      ∙ ap (sum (tonedAt s place k) from) (sym (add-one i))
-
-  pub summed-more : {pixel total' : Quad} → Four (λ k. at pixel k ≡ tonedAt s place k (from + i)) → Four (λ k. at total' k ≡ wrapAdd (at total k) (at pixel k))
-      → Summed s from count place total' (i + 1)
-  summed-more {pixel} {total'} p e =
-      record { so-far = omega arith; sums = three (λ k. lane-more k (at total k) (at pixel k) (at total' k)) (v .sums) p e }
-
-pub summed-done : {s : List ℕ} {from count place i : ℕ} {total : Quad} → Summed s from count place total i → count ≤ i
-    → Four (λ k. at total k ≡ sum (tonedAt s place k) from count)
-summed-done {s} {from} {count} {place} {i} v l = each (λ k e. e ∙ ap (sum (tonedAt s place k) from) (omega (arith, v .so-far))) (v .sums)
-
--- ---- a column of one pixel or two
-pub first-two : {p : ℕ → ℕ} {from to total r f : ℕ} → to - from ≡ 2 → f ≡ p from → r ≡ wrapAdd total f → First p from to total r
-first-two {total = total} h g e = record { one = λ q. absurd (omega arith); two = λ q. e ∙ ap (wrapAdd total) g }
-
-pub first-none : {p : ℕ → ℕ} {from to total : ℕ} → (to - from ≡ 2 → ⊥) → First p from to total total
-first-none h = record { one = λ q. refl; two = λ q. absurd (h (omega arith)) }
-
--- its total is what carry and its pixels make
-pub first-total : (p : ℕ → ℕ) (from to c l t r : ℕ) → from < to → to ≤ from + 2 → l ≡ p (to - 1) → t ≡ wrapAdd c l → First p from to t r
-    → r ≡ wrapAdd c (sum p from (to - from))
-first-total p from to c l t r some few l-is t-is f = by (le-or-lt to (from + 1))
+pub totalled-first : {s : List ℕ} {from to place : ℕ} {o : Own} {total : Quad} (carry last : Quad) → TotalAsks s from to place o
+    → Four (λ k. at total k ≡ wrapAdd (at carry k) (at last k)) → Totalled s from to place total total from
+totalled-first {s} {from} {place = place} carry last a e =
+    record {
+      past = omega arith;
+      so-far = a .some;
+      totals = each (λ k q. none (at carry k) (at last k) q (sum-none-yet (tonedAt s place k) from)) e;
+    }
   where
-    one : to ≡ from + 1 → r ≡ wrapAdd c (sum p from (to - from))
-    one e =
-        let pixels : sum p from (to - from) ≡ l = ap (sum p from) (let q : to - from ≡ 1 = omega arith in q) ∙ sum-one p from ∙ ap p (let q : from ≡ to - 1 = omega arith in q) ∙ sym l-is in
-        f .one e ∙ t-is ∙ ap (wrapAdd c) (sym pixels)
+    none : (c l : ℕ) {t u : ℕ} → t ≡ wrapAdd c l → u ≡ 0 → t ≡ wrapAdd t u
+    none c l h g = omega arith
 
-    two : to ≡ from + 2 → r ≡ wrapAdd c (sum p from (to - from))
-    two e =
-        let last : p (from + 1) ≡ l = ap p (let q : from + 1 ≡ to - 1 = omega arith in q) ∙ sym l-is in
-        let pixels : sum p from (to - from) ≡ p from + p (from + 1) = ap (sum p from) (let q : to - from ≡ suc 1 = omega arith in q) ∙ sum-suc p from 1 ∙ ap (λ (y : ℕ). y + p (from + 1)) (sum-one p from) in
-        omega (arith, f .two e, t-is, pixels, last)
+pub totalled-pixel : {s : List ℕ} {from to place x : ℕ} {o : Own} → TotalAsks s from to place o → x + 1 < to → PixelAsks s x
+totalled-pixel a l = record { whole = omega (arith, a .whole); small = omega (arith, a .small) }
 
-    by : (to ≤ from + 1) ⊎ (from + 1 < to) → r ≡ wrapAdd c (sum p from (to - from))
-    by (inl h) = one (omega arith)
-    by (inr h) = two (omega arith)
+module _ {s : List ℕ} {from to place x : ℕ} {total₀ total : Quad} (v : Totalled s from to place total₀ total x) where
+  lane-more : (k t p t' : ℕ) → t ≡ wrapAdd (at total₀ k) (sum (tonedAt s place k) from (x - from)) → p ≡ tonedAt s place k x → t' ≡ wrapAdd t p
+      → t' ≡ wrapAdd (at total₀ k) (sum (tonedAt s place k) from (x + 1 - from))
+  lane-more k t p t' = join (at total₀ k) (sum (tonedAt s place k) from (x - from)) (tonedAt s place k x) (sum-step (tonedAt s place k) from x (v .past))
+    where
+      join : (c u q : ℕ) {w t p t' : ℕ} → w ≡ u + q → t ≡ wrapAdd c u → p ≡ q → t' ≡ wrapAdd t p → t' ≡ wrapAdd c w
+      join c u q a b d f = omega arith
+
+  pub totalled-more : {pixel total' : Quad} → x + 1 < to → Four (λ k. at pixel k ≡ tonedAt s place k x) → Four (λ k. at total' k ≡ wrapAdd (at total k) (at pixel k))
+      → Totalled s from to place total₀ total' (x + 1)
+  totalled-more {pixel} {total'} l p e =
+      record { past = omega (arith, v .past); so-far = l; totals = three (λ k. lane-more k (at total k) (at pixel k) (at total' k)) (v .totals) p e }
+
+  pub totalled-done : (carry last : Quad) → to ≤ x + 1 → Four (λ k. at total₀ k ≡ wrapAdd (at carry k) (at last k))
+      → Four (λ k. at total k ≡ wrapAdd (at carry k) (at last k + sum (tonedAt s place k) from (to - 1 - from)))
+  totalled-done carry last l e =
+      let end : x ≡ to - 1 = omega (arith, v .so-far) in
+      both (λ k b t. join (at carry k) (at last k) (sum (tonedAt s place k) from (to - 1 - from)) b (t ∙ ap (λ (y : ℕ). wrapAdd (at total₀ k) (sum (tonedAt s place k) from (y - from))) end)) e (v .totals)
+    where
+      join : (c l u : ℕ) {b t : ℕ} → b ≡ wrapAdd c l → t ≡ wrapAdd b u → t ≡ wrapAdd c (l + u)
+      join c l u h g = omega arith
+
+-- its last pixel is the last of its pixels
+pub total-pixels : (p : ℕ → ℕ) (from to c l t : ℕ) → from < to → l ≡ p (to - 1) → t ≡ wrapAdd c (l + sum p from (to - 1 - from)) → t ≡ wrapAdd c (sum p from (to - from))
+total-pixels p from to c l t some l-is t-is =
+    let count : to - from ≡ suc (to - 1 - from) = omega arith in
+    let place : from + (to - 1 - from) ≡ to - 1 = omega arith in
+    let all : sum p from (to - from) ≡ sum p from (to - 1 - from) + l =
+    ap (sum p from) count ∙ sum-suc p from (to - 1 - from) ∙ ap (λ (y : ℕ). sum p from (to - 1 - from) + p y) place ∙ ap (λ (y : ℕ). sum p from (to - 1 - from) + y) (sym l-is) in
+    t-is ∙ ap (wrapAdd c) (turn l (sum p from (to - 1 - from)) all)
+  where
+    turn : (a b : ℕ) {w : ℕ} → w ≡ b + a → a + b ≡ w
+    turn a b h = omega arith
 
 -- ---- a column's end
 module _ (m scale over : ℕ) (total last : Quad) (small : over < 16384) where

@@ -3,7 +3,7 @@ use Prim.Native.Nat.{ℕ, zero, suc, _+_, _-_, _*_, _/_, _%_, _≤_, _<_}
 use mathlib.Core.Path.{_≡_, refl, sym, ap, _∙_, fun-ext}
 use mathlib.Core.List.{List}
 use native.Mathlib.Omega.{arith}
-use native.Mathlib.Nat.{mul-le-mul-left, div-add-mod, mod-lt, lt-of-mul-lt-mul-right}
+use native.Mathlib.Nat.{mul-le-mul-left, div-add-mod, mod-lt}
 use native.Mathlib.Numerals.{add-one}
 use lib.ListN.{length}
 use Rattle.arithmetic.specs.FixedPoint.{FRAC}
@@ -22,11 +22,11 @@ use Rattle.rows.specs.WorkRows.{written}
 use Rattle.rows.specs.Inner.Import.{at, Four, stored, laneBytes, PixelAsks, Within, writtenRow, RowAsks}
 use Rattle.rows.specs.Inner.NextColumn.{NextAsks, NextIs}
 use Rattle.rows.proofs.Columns.{made-next}
-use Rattle.rows.proofs.Lanes.{each, both, three, four-at, row-values, written-length, put-four}
+use Rattle.rows.proofs.Lanes.{each, both, four-at, row-values, written-length, put-four}
 use Rattle.rows.proofs.NextColumn.{LaneMade, lane-made, column-inside}
 use Rattle.rows.proofs.Tones.{tonedAt-byte, toned-colour, toned-alpha}
-use Rattle.rows_pixels.proofs.Bytes.{first-total}
-use Rattle.rows_pixels.specs.Inner.{Owned, Apart, inLanes, SumAsks, FirstAsks, First, EndAsks, endValue, endCarry}
+use Rattle.rows_pixels.proofs.Bytes.{total-pixels}
+use Rattle.rows_pixels.specs.Inner.{Owned, Apart, inLanes, TotalAsks, EndAsks, endValue, endCarry}
 
 -- ---- the bytes of a pixel at the places of its lanes are the lanes
 module _ (s : List ℕ) (bytes : Rattle.rows.specs.Inner.Import.Bytes s) (p : Places) (apart : Apart p) where
@@ -104,15 +104,14 @@ module _ {s half₀ half : List ℕ} {n m : ℕ} {p : Places} {carry : Quad} {x 
     pub inside : x' ≤ n
     inside = column-inside n m j x' over' below (w .over-small) next-made
 
-    pub standing-sum : {o : Own} → Owned (p .a) o → SumAsks s x (x' - x) (p .a) o
-    standing-sum owned =
-        let sides : x + (x' - x) ≡ x' = omega (arith, w .more) in
+    pub standing-asks : {o : Own} → Owned (p .a) o → TotalAsks s x x' (p .a) o
+    standing-asks owned =
         record {
-          whole = rw (sides, a .whole) (mul-le-mul-left pixelLanes inside);
-          small = omega (arith, inside, a .n-small, w .more);
+          some = w .more;
+          whole = rw (a .whole) (mul-le-mul-left pixelLanes inside);
+          small = omega (arith, inside, a .n-small);
           place-in = a .places .a-in;
           owned = owned;
-          bytes = a .bytes;
         }
 
     pub standing-last : PixelAsks s (x' - 1)
@@ -122,26 +121,9 @@ module _ {s half₀ half : List ℕ} {n m : ℕ} {p : Places} {carry : Quad} {x 
           small = omega (arith, w .more, inside, a .n-small);
         }
 
-    -- a column of one pixel or two
-    pub standing-few : n < 2 * m → x' ≤ x + 2
-    standing-few l =
-        let most : x' * m < (x + 3) * m = omega (arith, w .made, w .over-small) in
-        omega (arith, lt-of-mul-lt-mul-right m most)
-
-    pub standing-first-asks : {o : Own} → n < 2 * m → Owned (p .a) o → FirstAsks s x x' (p .a) o
-    standing-first-asks l owned =
-        record {
-          some = w .more;
-          few = standing-few l;
-          pixel = record { whole = rw (a .whole) (omega (arith, w .more, inside)); small = omega (arith, w .more, inside, a .n-small) };
-          place-in = a .places .a-in;
-          owned = owned;
-        }
-
-    pub standing-total : {last t total : Quad} → n < 2 * m → Four (λ k. at last k ≡ tonedAt s (p .a) k (x' - 1)) → Four (λ k. at t k ≡ wrapAdd (at carry k) (at last k))
-        → Four (λ k. First (tonedAt s (p .a) k) x x' (at t k) (at total k)) → Four (λ k. at total k ≡ wrapAdd (at carry k) (sum (tonedAt s (p .a) k) x (x' - x)))
-    standing-total {last} {t} {total} l l-is t-is f =
-        three (λ k. first-total (tonedAt s (p .a) k) x x' (at carry k) (at last k) (at t k) (at total k) (w .more) (standing-few l)) l-is t-is f
+    pub standing-total : {last total : Quad} → Four (λ k. at last k ≡ tonedAt s (p .a) k (x' - 1))
+        → Four (λ k. at total k ≡ wrapAdd (at carry k) (at last k + sum (tonedAt s (p .a) k) x (x' - 1 - x))) → Four (λ k. at total k ≡ wrapAdd (at carry k) (sum (tonedAt s (p .a) k) x (x' - x)))
+    standing-total {last} {total} = both (λ k. total-pixels (tonedAt s (p .a) k) x x' (at carry k) (at last k) (at total k) (w .more))
 
     pub standing-end : EndAsks half j m over' p
     standing-end =

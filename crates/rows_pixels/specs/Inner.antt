@@ -5,7 +5,7 @@ use mathlib.Core.Path.{_≡_}
 use mathlib.Core.List.{List}
 use lib.ListN.{length, getD}
 use Rattle.arithmetic.specs.FixedPoint.{MULT}
-use Rattle.arithmetic.specs.Word.{wrapAdd, wrapSub, wrapMul}
+use Rattle.arithmetic.specs.Word.{wrapSub, wrapMul}
 use Rattle.pixels.specs.Sizes.{pixelLanes, maxSide}
 use Rattle.pixels_layout.specs.declared.Places.{Places}
 use Rattle.pixels_layout.specs.declared.PixelLayout.{PixelLayout}
@@ -14,7 +14,7 @@ use Rattle.rows.specs.declared.Own.{Own}
 use Rattle.rows.specs.declared.Quad.{Quad}
 use Rattle.rows.specs.Column.{columnSum}
 use Rattle.rows.specs.Tones.{ownAt, ownOf, tonedAt}
-use Rattle.rows.specs.Inner.Import.{at, Four, Bytes, PixelAsks, Within}
+use Rattle.rows.specs.Inner.Import.{at, Four, Bytes, Within}
 
 -- ---- a pixel
 
@@ -22,23 +22,13 @@ use Rattle.rows.specs.Inner.Import.{at, Four, Bytes, PixelAsks, Within}
 abbrev pub Owned : ℕ → Own → Type 0
 Owned place o = Four (λ k. ownOf o k ≡ ownAt place k)
 
-pub record SumAsks (s : List ℕ) (from count place : ℕ) (o : Own) : Type 0 where
-  pub whole : pixelLanes * (from + count) ≤ length s
-  pub small : from + count ≤ maxSide
-  pub place-in : place < pixelLanes
-  pub owned : Owned place o
-  pub bytes : Bytes s
-
-pub record FirstAsks (s : List ℕ) (from to place : ℕ) (o : Own) : Type 0 where
+-- the pixels of a column, from `from` up to `to`
+pub record TotalAsks (s : List ℕ) (from to place : ℕ) (o : Own) : Type 0 where
   pub some : from < to
-  pub few : to ≤ from + 2
-  pub pixel : PixelAsks s from
+  pub whole : pixelLanes * to ≤ length s
+  pub small : to ≤ maxSide
   pub place-in : place < pixelLanes
   pub owned : Owned place o
-
-pub record First (p : ℕ → ℕ) (from to total r : ℕ) : Type 0 where
-  pub one : to ≡ from + 1 → r ≡ total
-  pub two : to ≡ from + 2 → r ≡ wrapAdd total (p from)
 
 -- ---- a column
 

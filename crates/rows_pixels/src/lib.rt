@@ -20,6 +20,7 @@ ghost use mathlib.Core.Path.{_≡_};
 ghost use Prim.Native.Nat.{_+_, _-_, _*_, _%_, _≤_, _<_};
 ghost use lib.ListN.{length, getD};
 ghost use Rattle.arithmetic.specs.Sum.{sum};
+ghost use Rattle.arithmetic.specs.Word.{wrapAdd};
 ghost use Rattle.pixels.specs.Refusals.{checkedNumber};
 ghost use Rattle.pixels.specs.Sizes.{maxSide, pixelLanes};
 ghost use Rattle.pixels_layout.specs.Layout.{placesOf};
@@ -28,7 +29,7 @@ ghost use Rattle.rows.specs.Tones.{toned, tonedAt};
 ghost use Rattle.rows.specs.Inner.Import.{at, Four, stored, byteAt, PixelAsks, Within, writtenRow, RowAsks};
 ghost use Rattle.rows.specs.Inner.NextColumn.{NextAsks, NextIs};
 ghost use Rattle.rows.specs.Import.{importHalf};
-ghost use Rattle.rows_pixels.specs.Inner.{Owned, Apart, InLanes, inLanes, SumAsks, FirstAsks, First, EndAsks, endValue, endCarry, FillAsks, PairAsks, Filled, Ready, BlockAsks};
+ghost use Rattle.rows_pixels.specs.Inner.{Owned, Apart, InLanes, inLanes, TotalAsks, EndAsks, endValue, endCarry, FillAsks, PairAsks, Filled, Ready, BlockAsks};
 
 // ---- a pixel
 
@@ -57,27 +58,24 @@ fn one(row: &[u8], x: usize, place: usize, o: Own) -> Quad
     }
 }
 
-// The sum of `count` pixels from pixel `from` on.
-fn sum_pixels(row: &[u8], from: usize, count: usize, place: usize, o: Own) -> Quad
-    requires { ⌜ SumAsks (now row) from count place o ⌝ }
-    ensures { λ r. ⌜ Four (λ k. at r k ≡ sum (tonedAt (now (row .entry)) place k) from count) ⌝ }
+// A column's total: its carry, its last pixel, and the pixels from `from` on before that.
+fn total_of(
+    row: &[u8],
+    from: usize,
+    to: usize,
+    place: usize,
+    o: Own,
+    carry: Quad,
+    last: Quad,
+) -> Quad
+    requires { ⌜ TotalAsks (now row) from to place o ⌝ }
+    ensures { λ r. ⌜ Four (λ k. at r k ≡ wrapAdd (at carry k) (at last k + sum (tonedAt (now (row .entry)) place k) from (to - 1 - from))) ⌝ }
 {
-    let mut total = zero4();
-    let mut i = 0usize;
-    while i < count {
-        total = add4(total, one(row, from + i, place, o));
-        i += 1;
-    }
-    total
-}
-
-// The total of a column of one pixel or two, of what carry and its last pixel make.
-fn with_first(row: &[u8], from: usize, to: usize, place: usize, o: Own, total: Quad) -> Quad
-    requires { ⌜ FirstAsks (now row) from to place o ⌝ }
-    ensures { λ r. ⌜ Four (λ k. First (tonedAt (now (row .entry)) place k) from to (at total k) (at r k)) ⌝ }
-{
-    if to - from == 2 {
-        return add4(total, one(row, from, place, o));
+    let mut total = add4(carry, last);
+    let mut x = from;
+    while x + 1 < to {
+        total = add4(total, one(row, x, place, o));
+        x += 1;
     }
     total
 }
@@ -215,32 +213,7 @@ fn both(sums: &[u16; 256], k: usize) -> Quad
 
 // ---- a row. The Rust: Rescaler::import_row_shrink; libwebp: WebPRescalerImportRowShrink_C. Its `sum` carries on here as `carry`.
 
-// Columns of one pixel or two.
-fn shrink_small(row: &[u8], n: usize, m: usize, p: Places, half: &mut [u32])
-    requires { ⌜ RowAsks (now row) (now half) n m p ⌝ }
-    requires { ⌜ (m ≤ n) × (n < 2 * m) ⌝ }
-    requires { ⌜ Apart p ⌝ }
-    ensures { λ _. ⌜ now (half .exit) ≡ writtenRow p n m (now (row .entry)) (now (half .entry)) ⌝ }
-{
-    let scale = frac(1, m as u32);
-    let place = p.a;
-    let own = own_at(place);
-    let each = n / m;
-    let rest = n % m;
-    let mut s = Stand { x: 0, over: 0 };
-    let mut carry = zero4();
-    let mut j = 0usize;
-    while j < m {
-        let x = s.x;
-        s = next_stand(n, m, each, rest, s);
-        let last = one(row, s.x - 1, place, own);
-        let total = with_first(row, x, s.x, place, own, add4(carry, last));
-        carry = end_column(half, j, m, scale, s.over, total, last, p);
-        j += 1;
-    }
-}
-
-// Columns of any number of pixels, pixel by pixel.
+// Columns of one pixel or two, or of any number, pixel by pixel.
 fn shrink_pixels(row: &[u8], n: usize, m: usize, p: Places, half: &mut [u32])
     requires { ⌜ RowAsks (now row) (now half) n m p ⌝ }
     requires { ⌜ m ≤ n ⌝ }
@@ -258,8 +231,8 @@ fn shrink_pixels(row: &[u8], n: usize, m: usize, p: Places, half: &mut [u32])
     while j < m {
         let x = s.x;
         s = next_stand(n, m, each, rest, s);
-        let total = add4(carry, sum_pixels(row, x, s.x - x, place, own));
         let last = one(row, s.x - 1, place, own);
+        let total = total_of(row, x, s.x, place, own, carry, last);
         carry = end_column(half, j, m, scale, s.over, total, last, p);
         j += 1;
     }
@@ -307,7 +280,7 @@ fn shrink_whole(layout: PixelLayout, row: &[u8], n: usize, m: usize, p: Places, 
     }
 }
 
-// Columns of one pixel or two, of more than 512, and of others, which are summed block by block.
+// Columns of one pixel or two and of more than 512 pixel by pixel, others block by block.
 fn shrink_row(layout: PixelLayout, row: &[u8], n: usize, m: usize, half: &mut [u32])
     requires { ⌜ RowAsks (now row) (now half) n m (placesOf layout) ⌝ }
     requires { ⌜ m ≤ n ⌝ }
@@ -316,7 +289,7 @@ fn shrink_row(layout: PixelLayout, row: &[u8], n: usize, m: usize, half: &mut [u
     let p = layout.places();
     let each = n / m;
     if each == 1 {
-        shrink_small(row, n, m, p, half);
+        shrink_pixels(row, n, m, p, half);
         return;
     }
     if each >= 512 {
