@@ -1,5 +1,6 @@
 pub mod Columns
 pub mod NextColumn
+pub mod Differences
 pub mod Lanes
 pub mod Tones
 pub mod Layouts

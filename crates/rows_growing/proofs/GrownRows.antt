@@ -17,10 +17,10 @@ use Rattle.rows.specs.Column.{value}
 use Rattle.rows.specs.WorkRows.{written}
 use Rattle.rows.specs.Lanes.{rowValue}
 use Rattle.rows.specs.Inner.Import.{at, Four, stored, laneBytes, Within, PixelAsks, writtenRow, RowAsks}
-use Rattle.rows.proofs.Columns.{grow-at, value-grow}
+use Rattle.rows.proofs.Differences.{lane-enters, lane-goes, lane-value}
 use Rattle.rows.proofs.Lanes.{each, both, three, lane-byte, row-values, put-four, written-length}
-use Rattle.rows_growing.specs.Inner.{BetweenAsks, LaneStands, GrowAsks}
-use Rattle.rows_growing.proofs.Pairs.{lane-enters, lane-goes, lane-is}
+use Rattle.rows.specs.Inner.Differences.{LaneStands}
+use Rattle.rows_growing.specs.Inner.{BetweenAsks, GrowAsks}
 
 -- a pixel of the crop may be read
 pixel : {s half : List ℕ} {p : Places} {n m : ℕ} (x : ℕ) → RowAsks s half n m p → x < n → PixelAsks s x
@@ -117,15 +117,8 @@ module _ {s half₀ : List ℕ} {p : Places} {n m span step : ℕ} {right₀ fal
     -- column j stored
     module _ (half' : List ℕ) (put : half' ≡ stored half j v) where
       lane : (k : ℕ) → LaneStands (laneBytes p s k x) (laneBytes p s k (x + 1 % n)) acc span step (at v k) (at fall k) → at v k ≡ value (laneBytes p s k) n m j
-      lane k w =
-          lane-is (i .most) w
-          ∙ ap (λ (t : ℕ). laneBytes p s k x * acc + laneBytes p s k (x + 1 % n) * (t - acc)) (a .span-is)
-          ∙ sym (grow-at (laneBytes p s k) n m j x acc (laneBytes p s k (x + 1 % n)) (a .grows) (i .below) here (omega (arith, i .most, a .span-is)) (omega (arith, i .inside)) (λ h. ap (laneBytes p s k) (next h)))
-          ∙ sym (value-grow (laneBytes p s k) n m j (a .grows))
+      lane k = lane-value (laneBytes p s k) (a .grows) (i .below) (a .span-is) (a .step-is) (i .along) (i .most) (omega (arith, i .inside)) (λ h. ap (laneBytes p s k) (next h))
         where
-          here : acc + j * (n - 1) ≡ suc x * (m - 1)
-          here = rw (← (a .span-is), ← (a .step-is)) (i .along)
-
           next : suc x < n → x + 1 % n ≡ suc x
           next h = let one : 1 % n ≡ 1 = mod-eq-of-lt (let g : 1 < n = omega arith in g) in omega arith
 

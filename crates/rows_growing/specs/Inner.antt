@@ -1,12 +1,13 @@
 -- What the private functions ask and ensure: relations between what goes in and what comes out. Two pixels share span parts, and a column goes on by step
 -- of them. Assumes nothing.
-use Prim.Native.Nat.{ℕ, _+_, _-_, _*_, _%_, _^_, _≤_, _<_}
+use Prim.Native.Nat.{ℕ, _+_, _-_, _%_, _≤_, _<_}
 use mathlib.Core.Path.{_≡_}
 use mathlib.Core.List.{List}
 use Rattle.pixels.specs.Sizes.{maxSide}
 use Rattle.pixels_layout.specs.declared.Places.{Places}
 use Rattle.rows.specs.declared.Quad.{Quad}
 use Rattle.rows.specs.Inner.Import.{at, Four, laneBytes, RowAsks}
+use Rattle.rows.specs.Inner.Differences.{LaneStands}
 
 -- what is or-ed to the alpha: nothing for a colour, all bits for the alpha itself
 pub record Owns (none all : ℕ) : Type 0 where
@@ -22,13 +23,6 @@ pub record BetweenAsks (left : Quad) (acc rest : ℕ) : Type 0 where
   pub bytes : Four (λ k. at left k ≤ 255)
   pub acc-small : acc < maxSide
   pub rest-small : rest < maxSide
-
--- one lane of a column between two pixels, l and r: acc of span parts are the left one's, the rest the right one's. The next column in the pair is less by
--- the fall, which is l × step - r × step modulo 2^32
-pub record LaneStands (l r acc span step value fall : ℕ) : Type 0 where
-  pub value-is : value + r * acc ≡ l * acc + r * span
-  pub fall-is : (fall + r * step) % 2 ^ 32 ≡ l * step
-  pub fall-word : fall < 2 ^ 32
 
 -- a row begun: `right` is the second pixel (of one pixel, itself), value and fall are the first column's
 pub record GrowAsks (s half : List ℕ) (p : Places) (n m span step : ℕ) (right fall value : Quad) : Type 0 where
