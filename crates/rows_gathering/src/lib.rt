@@ -286,7 +286,7 @@ fn next_column(n: usize, m: usize, each: usize, rest: usize, c: Column) -> Colum
     }
 }
 
-// How many columns the block has. Rules out: 32 where fewer are left.
+// How many columns the block has. Rules out: 32 where fewer are left; the columns before it counted.
 pub fn block_columns(m: usize, first: usize) -> usize
     ensures { λ r. ⌜ r ≡ blockColumns m first ⌝ }
 {
@@ -339,7 +339,7 @@ fn gather(
     c.to - x
 }
 
-// Whether there is a block: see the definition. Rules out: a column of 513 pixels; a width that grows; a row a pixel short.
+// Whether there is a block: see the definition. Rules out: a column of 513 pixels; a side of 16385.
 pub fn block_fits(n: usize, m: usize, first: usize, bytes: usize) -> bool
     ensures { λ r. ⌜ r ≡ blockFits n m first bytes ⌝ }
 {
@@ -359,7 +359,7 @@ pub fn block_fits(n: usize, m: usize, first: usize, bytes: usize) -> bool
 }
 
 // The sums of the pixels of up to 32 columns from column `first` on, and how many pixels these are; each byte as it stands, or matted by its pixel's alpha, the
-// alpha itself not. Rules out: the last pixel of an odd column left out; a pixel past the column summed; a colour that is not matted.
+// alpha itself not. Rules out: the last pixel of an odd column left out; a pixel matted by the alpha of the one before it.
 pub fn gather_block(
     layout: PixelLayout,
     plain: bool,

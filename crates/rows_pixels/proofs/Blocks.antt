@@ -110,10 +110,7 @@ module _ {s half₀ half : List ℕ} {n m : ℕ} {p : Places} {carry : Quad} {x 
   column-pixels = each (λ i e. e ∙ pixels i)
 
 -- ---- what a row's own tests lead to
-pub row-at : (layout : PixelLayout) {s half : List ℕ} {n m : ℕ} {p : Places} → RowAsks s half n m (placesOf layout) → p ≡ placesOf layout → RowAsks s half n m p
-row-at layout {s = s} {half = half} {n = n} {m = m} a e = subst (λ (q : Places). RowAsks s half n m q) (sym e) a
-
-pub block-asks : {layout : PixelLayout} {s half : List ℕ} {n m : ℕ} {p : Places} → RowAsks s half n m (placesOf layout) → m ≤ n → n / m < 512 → p ≡ placesOf layout
+pub block-asks : {layout : PixelLayout} {s half : List ℕ} {n m : ℕ} {p : Places} → RowAsks s half n m p → m ≤ n → n / m < 512 → p ≡ placesOf layout
     → BlockAsks layout n m p
 block-asks {n = n} {m = m} a shrinks l e =
     let most : suc (n / m) * m ≤ 512 * m = mul-le-mul-right m l in

@@ -281,18 +281,13 @@ fn shrink_whole(layout: PixelLayout, row: &[u8], n: usize, m: usize, p: Places, 
 }
 
 // Columns of one pixel or two and of more than 512 pixel by pixel, others block by block.
-fn shrink_row(layout: PixelLayout, row: &[u8], n: usize, m: usize, half: &mut [u32])
-    requires { ⌜ RowAsks (now row) (now half) n m (placesOf layout) ⌝ }
-    requires { ⌜ m ≤ n ⌝ }
-    ensures { λ _. ⌜ now (half .exit) ≡ writtenRow (placesOf layout) n m (now (row .entry)) (now (half .entry)) ⌝ }
+fn shrink_row(layout: PixelLayout, row: &[u8], n: usize, m: usize, p: Places, half: &mut [u32])
+    requires { ⌜ RowAsks (now row) (now half) n m p ⌝ }
+    requires { ⌜ (m ≤ n) × (p ≡ placesOf layout) ⌝ }
+    ensures { λ _. ⌜ now (half .exit) ≡ writtenRow p n m (now (row .entry)) (now (half .entry)) ⌝ }
 {
-    let p = layout.places();
     let each = n / m;
-    if each == 1 {
-        shrink_pixels(row, n, m, p, half);
-        return;
-    }
-    if each >= 512 {
+    if each == 1 || each >= 512 {
         shrink_pixels(row, n, m, p, half);
         return;
     }
@@ -334,6 +329,7 @@ pub fn import_row(
                 row,
                 crop_width as usize,
                 target_width as usize,
+                layout.places(),
                 half,
             );
         }

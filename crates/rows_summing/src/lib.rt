@@ -65,7 +65,7 @@ fn sum_columns(
 }
 
 // The sums of the pixels of up to 32 columns from column `first` on, each byte matted by its pixel's alpha, the alpha itself not.
-// Rules out: an opaque block judged by its first pixel; a block of 33 columns; a row that is too short.
+// Rules out: an opaque block judged by its first pixel; alphas of 254 taken for opaque.
 pub fn sum_block(
     layout: PixelLayout,
     n: usize,

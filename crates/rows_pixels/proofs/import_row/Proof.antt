@@ -1,5 +1,5 @@
 -- `import_row`: a row whose width grows is handed on; else a refusal with its number, or the row is written by the places of its layout. Assumes nothing.
-use mathlib.Core.Path.{refl, _∙_}
+use mathlib.Core.Path.{_∙_}
 use native.Mathlib.Omega.{arith}
 use borrow.Author.Needs.{needs}
 use Rattle.rows.proofs.Importing.{import-kept, row-asks, by-layout}
@@ -32,15 +32,19 @@ enum-told c = search needs
 enum-told-2 : tie.Need-enum-told-2
 enum-told-2 c = search needs
 
+places-requires : tie.Need-places-requires
+places-requires c κs = tt
+
 shrink-row-requires : tie.Need-shrink-row-requires
 shrink-row-requires c κs =
-    let t = c .before in
+    let t = c .before .before in
     let u = t .before .before .before in
     let k = u .before .before in
     let a = k .before .args in
+    let e = c .before .places .ensures in
     let goes = rw (t .enum-told2 .given .1) at (t .before .before .check-import .ensures) in (
-      row-asks (a .layout) (a .«crop-width») (a .«target-width») (a .row .now) (a .half .now) refl (λ i. omega (arith, k .shared-slice-known .given i)) goes,
-      u .if1 .left,
+      row-asks (a .layout) (a .«crop-width») (a .«target-width») (a .row .now) (a .half .now) e (λ i. omega (arith, k .shared-slice-known .given i)) goes,
+      (u .if1 .left, e),
     )
 
 returns-2 : tie.Need-returns-2
@@ -55,13 +59,14 @@ same-length-2 c = search needs
 
 returns-3 : tie.Need-returns-3
 returns-3 c =
-    let t = c .before .before .before .before in
+    let p = c .before .before .before .before in
+    let t = p .before in
     let k = t .before .before .before .before .before in
     let a = k .before .args in
     let number = t .before .before .check-import .ensures in
     let goes = rw (t .enum-told2 .given .1) at number in (
       number,
-      by-layout (a .layout) (a .«crop-width») (a .«target-width») (a .row .now) (a .half .now) refl (λ i. omega (arith, k .shared-slice-known .given i)) goes _ (c .before .before .shrink-row .ensures),
+      by-layout (a .layout) (a .«crop-width») (a .«target-width») (a .row .now) (a .half .now) (p .places .ensures) (λ i. omega (arith, k .shared-slice-known .given i)) goes _ (c .before .before .shrink-row .ensures),
     )
 
 pub import-row-spec : {M : Type 1} → statement M
@@ -75,6 +80,7 @@ import-row-spec =
     check-import-requires
     enum-told
     enum-told-2
+    places-requires
     shrink-row-requires
     returns-2
     same-length-2
