@@ -238,7 +238,7 @@ fn shrink_pixels(row: &[u8], n: usize, m: usize, p: Places, half: &mut [u32])
     }
 }
 
-// Columns of at most 512 pixels, summed block by block.
+// Columns summed block by block.
 fn shrink_blocks(layout: PixelLayout, row: &[u8], n: usize, m: usize, p: Places, half: &mut [u32])
     requires { ⌜ RowAsks (now row) (now half) n m p ⌝ }
     requires { ⌜ BlockAsks layout n m p ⌝ }
@@ -280,7 +280,7 @@ fn shrink_whole(layout: PixelLayout, row: &[u8], n: usize, m: usize, p: Places, 
     }
 }
 
-// Columns of one pixel or two and of more than 512 pixel by pixel, others block by block.
+// Columns of one pixel or two, and of 512 or more, pixel by pixel; others block by block.
 fn shrink_row(layout: PixelLayout, row: &[u8], n: usize, m: usize, p: Places, half: &mut [u32])
     requires { ⌜ RowAsks (now row) (now half) n m p ⌝ }
     requires { ⌜ (m ≤ n) × (p ≡ placesOf layout) ⌝ }
@@ -300,7 +300,7 @@ fn shrink_row(layout: PixelLayout, row: &[u8], n: usize, m: usize, p: Places, ha
 
 // One row of the crop, matted as it is read, into a half. A row as wide as the target goes the same way: matting changes it.
 // The Rust: Rescaler::import_row; libwebp: WebPRescalerImportRow.
-// Rules out: a carry rounded down; a colour that is not matted; two lanes exchanged; the whole last pixel taken off.
+// Rules out: a colour that is not matted; two lanes exchanged; the whole last pixel taken off; sums of too many pixels; those of a block's first column.
 pub fn import_row(
     layout: PixelLayout,
     crop_width: u32,

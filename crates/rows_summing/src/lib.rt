@@ -36,7 +36,7 @@ fn alphas(sums: &[u16; 256], count: usize, place: usize) -> usize
     total
 }
 
-// The bytes as they stand are tried where the block begins with an opaque pixel. Where all alphas come to 255 for each pixel, every one is 255, since none is more.
+// The bytes as they stand are tried where the pixel that the block begins in is opaque. Where all alphas come to 255 for each pixel, every one is 255, since none is more.
 // One call in a loop of two turns: the compiler makes one copy of it, in place.
 fn sum_columns(
     layout: PixelLayout,

@@ -5,10 +5,7 @@ use Rattle.rows.specs.Tones.{orred}
 use Rattle.rows.proofs.Tones.{orred-small}
 use Rattle.rows.proofs.factor.Statement.{statement}
 use Rattle.rows.proofs.factor.Tie as tie
-use Rattle.rows.proofs.factor.Reads as reads
-use Rattle.rows.proofs.factor.Lts as lts
 
--- src/lib.rt:93:1
 returns : tie.Need-returns
 unfolding orred
 returns c = (refl, orred-small (c .args .alpha) (c .args .own) (omega arith))

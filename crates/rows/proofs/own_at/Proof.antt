@@ -5,10 +5,7 @@ use Rattle.rows.proofs.Tones.{own-table, own-beyond}
 use borrow.Author.Needs.{needs}
 use Rattle.rows.proofs.own_at.Statement.{statement}
 use Rattle.rows.proofs.own_at.Tie as tie
-use Rattle.rows.proofs.own_at.Reads as reads
-use Rattle.rows.proofs.own_at.Lts as lts
 
--- src/lib.rt:77:9
 returns : tie.Need-returns
 returns c =
     let place = c .before .args .place in
@@ -20,55 +17,42 @@ returns c =
       l3 = own-beyond place 3 far (omega arith);
     }
 
--- src/lib.rt:85:12
 mul-t8 : tie.Need-mul-t8
 mul-t8 c = search needs
 
--- src/lib.rt:85:12
 index-1-t13 : tie.Need-index-1-t13
 index-1-t13 c = search needs
 
--- src/lib.rt:85:12
 index-2-t13 : tie.Need-index-2-t13
 index-2-t13 c = search needs
 
--- src/lib.rt:86:12
 mul-t19 : tie.Need-mul-t19
 mul-t19 c = search needs
 
--- src/lib.rt:86:12
 index-1-t24 : tie.Need-index-1-t24
 index-1-t24 c = search needs
 
--- src/lib.rt:86:12
 index-2-t24 : tie.Need-index-2-t24
 index-2-t24 c = search needs
 
--- src/lib.rt:87:12
 mul-t30 : tie.Need-mul-t30
 mul-t30 c = search needs
 
--- src/lib.rt:87:12
 index-1-t35 : tie.Need-index-1-t35
 index-1-t35 c = search needs
 
--- src/lib.rt:87:12
 index-2-t35 : tie.Need-index-2-t35
 index-2-t35 c = search needs
 
--- src/lib.rt:88:12
 mul-t41 : tie.Need-mul-t41
 mul-t41 c = search needs
 
--- src/lib.rt:88:12
 index-1-t46 : tie.Need-index-1-t46
 index-1-t46 c = search needs
 
--- src/lib.rt:88:12
 index-2-t46 : tie.Need-index-2-t46
 index-2-t46 c = search needs
 
--- src/lib.rt:73:1
 returns-2 : tie.Need-returns-2
 returns-2 c =
     let t = own-table (c .before .before .before .before .before .args .place) (omega arith) in

@@ -9,31 +9,22 @@ use Rattle.rows.proofs.Tones.{matte-257}
 use borrow.Author.Needs.{needs}
 use Rattle.rows.proofs.tone.Statement.{statement}
 use Rattle.rows.proofs.tone.Tie as tie
-use Rattle.rows.proofs.tone.Reads as reads
-use Rattle.rows.proofs.tone.Lts as lts
-use Rattle.rows.proofs.factor.Reads as factor-reads
 
--- src/lib.rt:105:27
 factor-requires : tie.Need-factor-requires
 factor-requires c κs = search needs
 
--- src/lib.rt:105:13
 mul-t : tie.Need-mul-t
 mul-t c = omega (arith, byte-product {x = c .before .args .byte} {y = c .factor .result} (omega arith) (c .factor .ensures .1))
 
--- src/lib.rt:105:13
 add-t : tie.Need-add-t
 add-t c = omega (arith, byte-product {x = c .before .args .byte} {y = c .factor .result} (omega arith) (c .factor .ensures .1))
 
--- src/lib.rt:106:5
 cast-result : tie.Need-cast-result
 cast-result c = omega (arith, byte-product {x = c .before .args .byte} {y = c .factor .result} (omega arith) (c .factor .ensures .1))
 
--- src/lib.rt:106:5
 mul-result : tie.Need-mul-result
 mul-result c = omega (arith, byte-product {x = c .before .args .byte} {y = c .factor .result} (omega arith) (c .factor .ensures .1))
 
--- src/lib.rt:102:1
 returns : tie.Need-returns
 unfolding toned
 returns c =

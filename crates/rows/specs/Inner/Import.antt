@@ -79,55 +79,15 @@ pub record PixelAsks (s : List ℕ) (x : ℕ) : Type 0 where
   pub whole : pixelLanes * x + pixelLanes ≤ length s
   pub small : x < maxSide
 
-pub record InLanes (p : Places) (bytes : Quad) (alpha : ℕ) (r : Quad) : Type 0 where
-  pub blue : r .a ≡ at bytes (p .b)
-  pub green : r .b ≡ at bytes (p .g)
-  pub red : r .c ≡ at bytes (p .r)
-  pub alpha-is : r .d ≡ alpha
-
 -- ---- pixels summed: those from x up to next
 pub record Lane (p : ℕ → ℕ) (x next total last : ℕ) : Type 0 where
   pub sum-is : total ≡ sum p x (next - x)
   pub last-is : last ≡ p (next - 1)
 
-pub record GatherAsks (s : List ℕ) (n m need x pa : ℕ) : Type 0 where
-  pub m-pos : 0 < m
-  pub m-small : m ≤ maxSide
-  pub need-pos : 0 < need
-  pub enough : x * m + need ≤ n * m
-  pub n-small : n ≤ maxSide
-  pub whole : pixelLanes * n ≤ length s
-  pub alpha-in : pa < pixelLanes
-  pub bytes : Bytes s
-
-pub record Gathers (s : List ℕ) (m need x pa : ℕ) (total last : Quad) (alpha base next got : ℕ) : Type 0 where
-  pub more : x < next
-  pub made : got + x * m ≡ next * m
-  pub enough : need ≤ got
-  pub small : got < need + m
-  pub colours : Four (λ k. Lane (mattedAt s pa k) x next (at total k) (at last k))
-  pub alphas : Lane (byteAt s pa) x next alpha base
-
 -- ---- a column where the width does not grow
-pub record ColumnAsks (s : List ℕ) (n m x debt : ℕ) (carry : Quad) (p : Places) : Type 0 where
-  pub m-pos : 0 < m
-  pub m-small : m ≤ n
-  pub debt-small : debt < m
-  pub enough : x * m + n ≤ n * m + debt
-  pub n-small : n ≤ maxSide
-  pub whole : length s ≡ pixelLanes * n
-  pub places : Within p
-  pub bytes : Bytes s
-  pub carries : Four (λ k. at carry k ≤ 255)
-
 pub record LaneColumn (p : ℕ → ℕ) (m scale x next debt carry value carry' : ℕ) : Type 0 where
   pub value-is : value ≡ (carry + sum p x (next - x)) * m - p (next - 1) * debt
   pub carry-is : carry' ≡ MULT (p (next - 1) * debt) scale
-
-pub record Columns (s : List ℕ) (n m scale x debt : ℕ) (carry : Quad) (p : Places) (value carry' : Quad) (next debt' : ℕ) : Type 0 where
-  pub made : next * m + debt ≡ x * m + n + debt'
-  pub debt-small : debt' < m
-  pub each : Four (λ k. LaneColumn (laneBytes p s k) m scale x next debt' (at carry k) (at value k) (at carry' k))
 
 -- ---- a row
 

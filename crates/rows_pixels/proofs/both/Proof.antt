@@ -6,41 +6,32 @@ use borrow.Author.Needs.{needs}
 use Rattle.rows_pixels.proofs.both.Statement.{statement}
 use Rattle.rows_pixels.proofs.both.Tie as tie
 
--- src/lib.rt:191:13
 mul-i : tie.Need-mul-i
 mul-i c = search needs
 
--- src/lib.rt:193:12
 pair-requires : tie.Need-pair-requires
 pair-requires c κs =
     let e : 8 * c .args .k + 0 ≡ 8 * c .args .k = omega arith in
     rw e at (c .pre .1 .l0)
 
--- src/lib.rt:194:23
 add-pair : tie.Need-add-pair
 add-pair c = search needs
 
--- src/lib.rt:194:12
 pair-requires-2 : tie.Need-pair-requires-2
 pair-requires-2 c κs = c .before .pre .1 .l1
 
--- src/lib.rt:195:23
 add-pair-2 : tie.Need-add-pair-2
 add-pair-2 c = search needs
 
--- src/lib.rt:195:12
 pair-requires-3 : tie.Need-pair-requires-3
 pair-requires-3 c κs = c .before .before .pre .1 .l2
 
--- src/lib.rt:196:23
 add-pair-3 : tie.Need-add-pair-3
 add-pair-3 c = search needs
 
--- src/lib.rt:196:12
 pair-requires-4 : tie.Need-pair-requires-4
 pair-requires-4 c κs = c .before .before .before .pre .1 .l3
 
--- src/lib.rt:187:1
 returns : tie.Need-returns
 returns c =
     let k = c .before .before .before .before .args .k in

@@ -7,43 +7,33 @@ use borrow.Author.Needs.{needs}
 use Rattle.rows_pixels.proofs.end_column.Statement.{statement}
 use Rattle.rows_pixels.proofs.end_column.Tie as tie
 
--- src/lib.rt:142:13
 cast-w : tie.Need-cast-w
 cast-w c = search needs
 
--- src/lib.rt:143:13
 cast-o : tie.Need-cast-o
 cast-o c = search needs
 
--- src/lib.rt:144:9
 finish-requires : tie.Need-finish-requires
 finish-requires c κs = search needs
 
--- src/lib.rt:145:9
 finish-requires-2 : tie.Need-finish-requires-2
 finish-requires-2 c κs = search needs
 
--- src/lib.rt:146:9
 finish-requires-3 : tie.Need-finish-requires-3
 finish-requires-3 c κs = search needs
 
--- src/lib.rt:147:9
 finish-requires-4 : tie.Need-finish-requires-4
 finish-requires-4 c κs = search needs
 
--- src/lib.rt:154:19
 in-lanes-requires : tie.Need-in-lanes-requires
 in-lanes-requires c κs = search needs
 
--- src/lib.rt:154:5
 put4-requires : tie.Need-put4-requires
 put4-requires c κs = search needs
 
--- src/lib.rt:128:1
 same-length : tie.Need-same-length
 same-length c = search needs
 
--- src/lib.rt:128:1
 returns : tie.Need-returns
 returns c =
     let f = c .before .before .before .before .before in

@@ -5,31 +5,24 @@ use borrow.Author.Needs.{needs}
 use Rattle.rows_pixels.proofs.next_stand.Statement.{statement}
 use Rattle.rows_pixels.proofs.next_stand.Tie as tie
 
--- src/lib.rt:86:16
 add-t7 : tie.Need-add-t7
 add-t7 c = let a = c .before .before .before .pre in omega (arith, each-small a, a .to-small, a .n-small)
 
--- src/lib.rt:86:16
 add-t8 : tie.Need-add-t8
 add-t8 c = let a = c .before .before .before .pre in omega (arith, each-small a, a .to-small, a .n-small)
 
--- src/lib.rt:87:19
 add-t9 : tie.Need-add-t9
 add-t9 c = search needs
 
--- src/lib.rt:87:19
 sub-t10 : tie.Need-sub-t10
 sub-t10 c = search needs
 
--- src/lib.rt:85:9
 returns : tie.Need-returns
 returns c = next-longer (c .before .before .before .before .pre) (c .before .before .if1 .taken)
 
--- src/lib.rt:91:12
 add-t11 : tie.Need-add-t11
 add-t11 c = let a = c .before .before .before .pre in omega (arith, each-small a, a .to-small, a .n-small)
 
--- src/lib.rt:80:1
 returns-2 : tie.Need-returns-2
 returns-2 c = next-even (c .before .before .before .before .pre) (c .before .before .if1 .left)
 

@@ -7,35 +7,27 @@ use borrow.Author.Needs.{needs}
 use Rattle.rows_pixels.proofs.one.Statement.{statement}
 use Rattle.rows_pixels.proofs.one.Tie as tie
 
--- src/lib.rt:48:21
 mul-alpha : tie.Need-mul-alpha
 mul-alpha c = search needs
 
--- src/lib.rt:48:21
 add-alpha : tie.Need-add-alpha
 add-alpha c = search needs
 
--- src/lib.rt:48:17
 shared-slice-read-alpha : tie.Need-shared-slice-read-alpha
 shared-slice-read-alpha c = search needs
 
--- src/lib.rt:50:12
 toned-byte-requires : tie.Need-toned-byte-requires
 toned-byte-requires c κs = search needs
 
--- src/lib.rt:51:12
 toned-byte-requires-2 : tie.Need-toned-byte-requires-2
 toned-byte-requires-2 c κs = search needs
 
--- src/lib.rt:52:12
 toned-byte-requires-3 : tie.Need-toned-byte-requires-3
 toned-byte-requires-3 c κs = search needs
 
--- src/lib.rt:53:12
 toned-byte-requires-4 : tie.Need-toned-byte-requires-4
 toned-byte-requires-4 c κs = search needs
 
--- src/lib.rt:42:1
 returns : tie.Need-returns
 unfolding tonedAt byteAt
 returns c =

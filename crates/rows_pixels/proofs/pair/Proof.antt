@@ -3,42 +3,31 @@ use native.Mathlib.Omega.{arith}
 use borrow.Author.Needs.{needs}
 use Rattle.rows_pixels.proofs.pair.Statement.{statement}
 use Rattle.rows_pixels.proofs.pair.Tie as tie
-use Rattle.rows_pixels.proofs.pair.Reads as reads
-use Rattle.rows_pixels.proofs.pair.Lts as lts
 
--- src/lib.rt:183:5
 mul-result : tie.Need-mul-result
 mul-result c = search needs
 
--- src/lib.rt:183:5
 element-copy-out-result : tie.Need-element-copy-out-result
 element-copy-out-result c = search needs
 
--- src/lib.rt:183:5
 cast-result : tie.Need-cast-result
 cast-result c = omega (arith, c .before .pre .small)
 
--- src/lib.rt:183:27
 add-result : tie.Need-add-result
 add-result c = search needs
 
--- src/lib.rt:183:22
 mul-result-2 : tie.Need-mul-result-2
 mul-result-2 c = search needs
 
--- src/lib.rt:183:22
 element-copy-out-result-2 : tie.Need-element-copy-out-result-2
 element-copy-out-result-2 c = search needs
 
--- src/lib.rt:183:22
 cast-result-2 : tie.Need-cast-result-2
 cast-result-2 c = omega (arith, c .before .before .pre .small)
 
--- src/lib.rt:183:5
 add-result-2 : tie.Need-add-result-2
 add-result-2 c = omega (arith, c .before .before .pre .small)
 
--- src/lib.rt:179:1
 returns : tie.Need-returns
 returns c = search needs
 

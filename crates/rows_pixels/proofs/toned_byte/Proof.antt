@@ -4,23 +4,18 @@ use borrow.Author.Needs.{needs}
 use Rattle.rows_pixels.proofs.toned_byte.Statement.{statement}
 use Rattle.rows_pixels.proofs.toned_byte.Tie as tie
 
--- src/lib.rt:38:14
 mul-tone : tie.Need-mul-tone
 mul-tone c = search needs
 
--- src/lib.rt:38:14
 add-tone : tie.Need-add-tone
 add-tone c = search needs
 
--- src/lib.rt:38:10
 shared-slice-read-tone : tie.Need-shared-slice-read-tone
 shared-slice-read-tone c = search needs
 
--- src/lib.rt:38:5
 tone-requires : tie.Need-tone-requires
 tone-requires c κs = search needs
 
--- src/lib.rt:33:1
 returns : tie.Need-returns
 unfolding byteAt
 returns c = c .tone .ensures
