@@ -1,6 +1,5 @@
 -- What the private functions ask and ensure: relations between what goes in and what comes out. s are the row's bytes, k counts lanes, j columns. Assumes nothing.
 use Prim.Native.Nat.{ℕ, _+_, _-_, _*_, _≤_, _<_}
-use mathlib.Core.Path.{_≡_}
 use mathlib.Core.List.{List}
 use lib.ListN.{length, getD}
 use Rattle.arithmetic.specs.Word.{wrapAdd, wrapSub, wrapMul}
@@ -19,21 +18,6 @@ pub record SumAsks (s : List ℕ) (lanes k from count : ℕ) : Type 0 where
   pub bytes : Bytes s
 
 -- ---- a column where the width does not grow
-
--- `to` pixels are used, and `over` parts of the last of them are left over; n is each × m + rest
-pub record NextAsks (n m each rest to over : ℕ) : Type 0 where
-  pub parts : each * m + rest ≡ n
-  pub rest-small : rest < m
-  pub over-small : over < m
-  pub shrinks : m ≤ n
-  pub n-small : n ≤ maxSide
-  pub to-small : to ≤ n
-
-pub record NextIs (n m to over from to' over' : ℕ) : Type 0 where
-  pub goes-on : from ≡ to
-  pub made : to' * m + over ≡ to * m + n + over'
-  pub over-small : over' < m
-  pub more : from < to'
 
 -- the value and the carry of lane k of a column, of the carries before it
 unfoldable pub columnValue : ℕ → List ℕ → ℕ → ℕ → ℕ → ℕ → List ℕ → ℕ → ℕ

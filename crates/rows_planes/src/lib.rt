@@ -16,7 +16,8 @@ ghost use Rattle.pixels.specs.Refusals.{checkedNumber};
 ghost use Rattle.rows_tests.specs.Tests.{importNumber};
 ghost use Rattle.rows_planes.specs.Planes.{planeHalf};
 ghost use Rattle.rows_widening.specs.Inner.{byteOf, setAll, RowAsks, rowWritten};
-ghost use Rattle.rows_planes.specs.Inner.{SumAsks, NextAsks, NextIs, columnValue, columnCarry, PutAsks};
+ghost use Rattle.rows.specs.Inner.NextColumn.{NextAsks, NextIs};
+ghost use Rattle.rows_planes.specs.Inner.{SumAsks, columnValue, columnCarry, PutAsks};
 
 // Byte i as a number.
 fn byte(row: &[u8], i: usize) -> u32

@@ -1,2 +1,4 @@
+pub mod EveryFactor
+pub mod OpaqueRows
 pub mod RestoredPixels
 pub mod RestoreRow

@@ -87,6 +87,16 @@ factor-half sp is t =
     let more : 2 < sp = ltb-true 2 sp t in
     rw (is, ne-eqb sp 1 (λ e. omega arith), frac-exact 1 sp (omega arith)) (div-bound sp (omega arith) (omega arith))
 
+-- found without a branch: the quotient passes a word for span 1 alone
+pub factor-is : (sp : ℕ) → 1 ≤ sp → 2 ^ 32 / sp - 2 ^ 32 / sp / 2 ^ 32 ≡ factorUp sp
+unfolding factorUp
+factor-is zero h = omega arith
+factor-is (suc zero) h = omega arith
+factor-is (suc (suc n)) h =
+    let sp : ℕ = suc (suc n) in
+    let word : 2 ^ 32 / sp < 2 ^ 32 = div-bound sp (omega arith) (omega arith) in
+    rw (ne-eqb sp 1 (λ e. omega arith), frac-exact 1 sp (omega arith)) (omega arith)
+
 -- 2^32 - 1 gives the word itself up to 2^31, and beyond it a number that is cut as the word is
 one-less : {j : ℕ} → j < 2 ^ 32 → clamp (MULT j (factorUp 1)) ≡ clamp j
 unfolding MULT factorUp

@@ -11,6 +11,11 @@ use Rattle.rows.specs.Output.{clamp}
 use Rattle.rows_scaling.specs.Inner.Scaling.{RoomAsks, shrinkLeft, shrinkByte, lowByte}
 use Rattle.arithmetic.proofs.Stores.{Stored, none-stored, store, ahead}
 
+-- f by the step 0
+pub floor-none : (v : ℕ) {step : ℕ} → step ≡ 0 → 0 ≡ FLOOR v step
+unfolding FLOOR
+floor-none v e = rw e (omega arith)
+
 -- both lists, k turns on
 pub record Shrunk (step q w : ℕ) (work₀ out₀ work out : List ℕ) (k : ℕ) : Type 0 where
   pub left : Stored (shrinkLeft step w work₀) work₀ work w k
@@ -22,18 +27,18 @@ shrink-first step q {w} {work} {out} a =
 
 module _ {step q w k : ℕ} {work₀ out₀ work out : List ℕ} (i : Shrunk step q w work₀ out₀ work out k) where
   -- f is read from the second half, which no turn reaches, and the difference from the first half's next value
-  pub shrink-turn : (f s v r : ℕ) → k < w → f < 2 ^ 32 → s < 2 ^ 32 → getD work k 0 < 2 ^ 32 → f ≡ FLOOR (getD work (w + k) 0) step
-      → (s + f) % 2 ^ 32 ≡ getD work k 0 → v ≡ MULT s q → r ≡ clamp v
+  pub shrink-turn : {f s r : ℕ} → k < w → f < 2 ^ 32 → s < 2 ^ 32 → getD work k 0 < 2 ^ 32 → f ≡ FLOOR (getD work (w + k) 0) step
+      → (s + f) % 2 ^ 32 ≡ getD work k 0 → r ≡ clamp (MULT s q)
       → Shrunk step q w work₀ out₀ (set work k f) (set out k r) (k + 1)
   unfolding shrinkLeft shrinkByte
-  shrink-turn f s v r t hf hs hw e d m b =
+  shrink-turn {f} {s} t hf hs hw e d b =
       let second : getD work (w + k) 0 ≡ getD work₀ (w + k) 0 = ahead (i .left) (w + k) (omega arith) in
       let f-is : f ≡ shrinkLeft step w work₀ k = e ∙ ap (λ (x : ℕ). FLOOR x step) second in
       let s-is : s ≡ wrapSub (getD work₀ k 0) (shrinkLeft step w work₀ k) =
       wrapSub-is s (getD work k 0) f hs hw hf d ∙ ap₂ wrapSub (ahead (i .left) k (omega arith)) f-is in
       record {
         left = store (i .left) t f-is;
-        bytes = store (i .bytes) t (b ∙ ap clamp (m ∙ ap (λ (x : ℕ). MULT x q) s-is));
+        bytes = store (i .bytes) t (b ∙ ap (λ (x : ℕ). clamp (MULT x q)) s-is);
       }
 
 -- the ratio 2^32: the first half becomes 0

@@ -12,9 +12,9 @@ ghost use mathlib.Core.Path.{_≡_};
 ghost use mathlib.Core.List.{_++_};
 ghost use Prim.Native.Nat.{_+_, _*_, _^_, _≤_, _<_};
 ghost use lib.Dec.{ltb};
-ghost use lib.ListN.{length, drop};
+ghost use lib.ListN.{length, getD, drop};
 ghost use Rattle.arithmetic.specs.Word.{wrapMul};
-ghost use Rattle.arithmetic.specs.FixedPoint.{FRAC};
+ghost use Rattle.arithmetic.specs.FixedPoint.{MULT, FLOOR, FRAC};
 ghost use Rattle.arithmetic.specs.Table.{tabulate};
 ghost use Rattle.pixels.specs.Refusals.{checkedNumber};
 ghost use Rattle.rows.specs.Output.{clamp, restDown, ratio, mixed};
@@ -45,7 +45,26 @@ fn byte_of(v: u32, signed: bool) -> u8
     v as u8
 }
 
-// Heights that do not grow: f of each value of the second half replaces the first half, and the byte is made of their difference. The loop of
+// MULT of v and the factor, as a byte.
+fn byte_by(v: u32, factor: u32, signed: bool) -> u8
+    requires { ⌜ Halved signed factor ⌝ }
+    ensures { λ r. ⌜ r ≡ clamp (MULT v factor) ⌝ }
+{
+    byte_of(mult_fix(v, factor), signed)
+}
+
+// f of a value of the second half. The step 0, that of d = 0, is tested: it is the same for a whole row, so that it gets a loop of its own, as in the Rust,
+// which does not read the second half.
+fn share_of(second: u32, step: u32) -> u32
+    ensures { λ r. ⌜ r ≡ FLOOR second step ⌝ }
+{
+    if step == 0 {
+        return 0;
+    }
+    mult_fix_floor(second, step)
+}
+
+// Heights that do not grow: f of each value of the second half replaces the first half, and the byte is made of their difference. The loops of
 // export_row_shrink.
 fn shrink_lanes(work: &mut [u32], w: usize, step: u32, q: u32, signed: bool, out: &mut [u8])
     requires { ⌜ RoomAsks (now work) (now out) w ⌝ }
@@ -55,8 +74,8 @@ fn shrink_lanes(work: &mut [u32], w: usize, step: u32, q: u32, signed: bool, out
 {
     let mut k = 0usize;
     while k < w {
-        let f = mult_fix_floor(work[w + k], step);
-        out[k] = byte_of(mult_fix(wrapping_sub_u32(work[k], f), q), signed);
+        let f = share_of(work[w + k], step);
+        out[k] = byte_by(wrapping_sub_u32(work[k], f), q, signed);
         work[k] = f;
         k += 1;
     }
@@ -84,24 +103,31 @@ fn level_lanes(work: &[u32], new: usize, w: usize, factor: u32, signed: bool, ou
 {
     let mut k = 0usize;
     while k < w {
-        out[k] = byte_of(mult_fix(work[new + k], factor), signed);
+        out[k] = byte_by(work[new + k], factor, signed);
         k += 1;
     }
 }
 
-// (a×newer + b×older + 2^31) / 2^32 with a + b = 2^32.
-fn blended(newer: u32, older: u32, a: u32, b: u32) -> u32
+// (a×newer + b×older + 2^31) / 2^32 with a + b = 2^32, of the values at places `new` and `old`.
+fn blended(work: &[u32], new: usize, old: usize, a: u32, b: u32) -> u32
+    requires { ⌜ (new < length (now work)) × (old < length (now work)) ⌝ }
     requires { ⌜ a + b ≡ 2 ^ 32 ⌝ }
-    ensures { λ r. ⌜ r ≡ mixed b newer older ⌝ }
+    ensures { λ r. ⌜ r ≡ mixed b (getD (now (work .entry)) new 0) (getD (now (work .entry)) old 0) ⌝ }
 {
+    let newer = work[new];
+    let older = work[old];
     ((a as u64 * newer as u64 + b as u64 * older as u64 + 2147483648) / 4294967296) as u32
 }
 
 // Heights that grow: the newer row and the older one, from places `new` and `old` on, blended, b of the older. The second loop of export_row_expand.
+// Two values a turn, the second from the places `new_next` and `old_next` on: so four even values and four odd ones are taken at once, each product from
+// where its values lie, with no shuffle, and eight bytes are packed together.
 fn blend_lanes(
     work: &[u32],
     new: usize,
+    new_next: usize,
     old: usize,
+    old_next: usize,
     w: usize,
     b: u32,
     factor: u32,
@@ -109,16 +135,22 @@ fn blend_lanes(
     out: &mut [u8],
 )
     requires { ⌜ GrowAsks (now work) new old (now out) w ⌝ }
+    requires { ⌜ («new_next» ≡ new + 1) × («old_next» ≡ old + 1) ⌝ }
     requires { ⌜ 0 < b ⌝ }
     requires { ⌜ Halved signed factor ⌝ }
     ensures { λ _. ⌜ now (out .exit) ≡ tabulate (growByte b factor (now (work .entry)) new old) w ⌝ }
 {
     let a = (4294967296u64 - b as u64) as u32;
     let mut k = 0usize;
-    while k < w {
-        let j = blended(work[new + k], work[old + k], a, b);
-        out[k] = byte_of(mult_fix(j, factor), signed);
-        k += 1;
+    while k + 1 < w {
+        let even = blended(work, new + k, old + k, a, b);
+        let odd = blended(work, new_next + k, old_next + k, a, b);
+        out[k] = byte_by(even, factor, signed);
+        out[k + 1] = byte_by(odd, factor, signed);
+        k += 2;
+    }
+    if k < w {
+        out[k] = byte_by(blended(work, new + k, old + k, a, b), factor, signed);
     }
 }
 
@@ -130,6 +162,17 @@ fn half_of(w: usize, c: u32) -> usize
         return w;
     }
     0
+}
+
+// The place after the first of that half. It has a branch of its own: a compiler that knew it next to the first would read both at once, and shuffle.
+fn next_of(w: usize, c: u32) -> usize
+    requires { ⌜ w + 1 < 2 ^ 64 ⌝ }
+    ensures { λ r. ⌜ r ≡ halfOf w c + 1 ⌝ }
+{
+    if c % 2 != 0 {
+        return 1;
+    }
+    w + 1
 }
 
 // The factor that f of each value is taken by: FRAC(1,g)×d modulo 2^32. FLOOR with the factor 0 is 0, so that d = 0 is no case of its own.
@@ -177,14 +220,14 @@ fn shrink_row(s: RowScale, used: u32, row: u32, out: &mut [u8], work: &mut [u32]
 }
 
 // The factor from j to the byte. For span 1 it is exactly one, which no word holds; 2^32 - 1 serves: MULT of j and it is j up to 2^31, and beyond it j - 1,
-// which is cut at 255 as j is. So span 1 needs no loop of its own.
+// which is cut at 255 as j is. So span 1 needs no loop of its own. No branch: a factor that comes out of one is no word to the compiler, and each product
+// of the loops becomes two.
 fn factor_up(span: u32) -> u32
+    requires { ⌜ 1 ≤ span ⌝ }
     ensures { λ r. ⌜ r ≡ factorUp span ⌝ }
 {
-    if span == 1 {
-        return 4294967295;
-    }
-    frac(1, span)
+    let q = 4294967296u64 / span as u64;
+    (q - q / 4294967296) as u32
 }
 
 // The height grows: the Rust's export_row_expand; no work value changes. The factor is below 2^31 for spans above 2 alone; the span is tested, for the
@@ -206,7 +249,20 @@ fn grow_row(s: RowScale, used: u32, row: u32, out: &mut [u8], work: &[u32])
         level_lanes(work, new, w, factor, signed, out);
         return;
     }
-    blend_lanes(work, new, old, w, b, factor, signed, out);
+    let new_next = next_of(w, used - 1);
+    let old_next = next_of(w, used);
+    blend_lanes(
+        work,
+        new,
+        new_next,
+        old,
+        old_next,
+        w,
+        b,
+        factor,
+        signed,
+        out,
+    );
 }
 
 // Makes output row `row` (SCOPE's Y) of a crop of which `used` rows came in: w values, whatever the lanes of its pixels, none of them restored yet.

@@ -1,3 +1,4 @@
 pub mod RowBytes
 pub mod Storing
 pub mod GrowingRows
+pub mod LaneRows

@@ -54,16 +54,6 @@ pub record StandIs (span step x acc x' acc' : ℕ) : Type 0 where
   pub small : acc' ≤ span
   pub on : (acc < step → x' ≡ suc x) × (step ≤ acc → x' ≡ x)
 
--- the same with the bytes of one lane's two pixels, which move on with it
-pub record PairAsks (s : List ℕ) (span step x acc : ℕ) : Type 0 where
-  pub stand : StandAsks span step x acc
-  pub more : acc < step → suc (suc x) < length s
-
-pub record PairIs (s : List ℕ) (span step left right x acc left' right' x' acc' : ℕ) : Type 0 where
-  pub stand : StandIs span step x acc x' acc'
-  pub moves : acc < step → (left' ≡ right) × (right' ≡ getD s (suc (suc x)) 0)
-  pub stays : step ≤ acc → (left' ≡ left) × (right' ≡ right)
-
 -- ---- a row
 pub record RowAsks (s half : List ℕ) (lanes n m : ℕ) : Type 0 where
   pub lane-count : LaneCount lanes

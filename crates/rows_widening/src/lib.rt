@@ -4,14 +4,15 @@ use arithmetic::wrapping_mul;
 use pixels::Checked;
 use rows_tests::check_import;
 use std::num::wrapping_add_u32;
+use std::num::wrapping_sub_u32;
 ghost use mathlib.Core.Path.{_≡_};
 ghost use Prim.Native.Nat.{_≤_, _<_};
 ghost use lib.ListN.{length, getD};
-ghost use Rattle.arithmetic.specs.Word.{wrapMul};
+ghost use Rattle.arithmetic.specs.Word.{wrapAdd, wrapSub, wrapMul};
 ghost use Rattle.pixels.specs.Refusals.{checkedNumber};
 ghost use Rattle.rows_tests.specs.Tests.{importNumber};
 ghost use Rattle.rows_widening.specs.Widening.{widenedHalf};
-ghost use Rattle.rows_widening.specs.Inner.{byteOf, setAll, PartAsks, betweenValue, BetweenAsks, StandAsks, StandIs, PairAsks, PairIs, RowAsks, rowWritten};
+ghost use Rattle.rows_widening.specs.Inner.{byteOf, setAll, PartAsks, betweenValue, BetweenAsks, StandAsks, StandIs, RowAsks, rowWritten};
 
 // Byte i as a number.
 fn byte(row: &[u8], i: usize) -> u32
@@ -108,58 +109,60 @@ fn grow_lanes(row: &[u8], lanes: usize, n: usize, m: usize, half: &mut [u32])
     }
 }
 
-// Where an output column of one lane stands: the bytes of pixel x and of the next one, and acc of span parts that are the left's.
-struct Pair {
-    left: u32,
-    right: u32,
-    x: usize,
-    acc: usize,
-}
-
-// One column on.
-fn next_pair(row: &[u8], span: usize, step: usize, mut s: Pair) -> Pair
-    requires { ⌜ PairAsks (now row) span step (s .x) (s .acc) ⌝ }
-    ensures { λ r. ⌜ PairIs (now (row .entry)) span step (s .left) (s .right) (s .x) (s .acc) (r .left) (r .right) (r .x) (r .acc) ⌝ }
+// One lane of a column: acc parts of the pixel `left`, rest of the pixel `right`.
+fn between(left: u32, right: u32, acc: u32, rest: u32) -> u32
+    ensures { λ r. ⌜ r ≡ wrapAdd (wrapMul left acc) (wrapMul right rest) ⌝ }
 {
-    let acc = s.acc;
-    if acc < step {
-        let left = s.right;
-        let x = s.x + 1;
-        return Pair {
-            left,
-            right: byte(row, x + 1),
-            x,
-            acc: acc + span - step,
-        };
-    }
-    s.acc = acc - step;
-    s
+    wrapping_add_u32(wrapping_mul(left, acc), wrapping_mul(right, rest))
 }
 
-// Every column of one lane, its two pixels kept.
+// The difference modulo 2^32.
+fn minus(x: u32, y: u32) -> u32
+    ensures { λ r. ⌜ r ≡ wrapSub x y ⌝ }
+{
+    wrapping_sub_u32(x, y)
+}
+
+// What a column is less than the one before it.
+fn fall_of(left: u32, right: u32, step: u32) -> u32
+    ensures { λ r. ⌜ r ≡ wrapMul (wrapSub left right) step ⌝ }
+{
+    wrapping_mul(minus(left, right), step)
+}
+
+// Every column of one lane. Within a pair of pixels a column is the one before less the fall; products are made only where a pixel is passed. The last column
+// uses up the parts of the last pair, so columns are not counted: fewer jumps. Of one pixel no column uses any parts: that row is not for here.
 fn grow_lane(row: &[u8], n: usize, m: usize, half: &mut [u32])
     requires { ⌜ RowAsks (now row) (now half) 1 n m ⌝ }
-    requires { ⌜ n < m ⌝ }
+    requires { ⌜ (1 < n) × (n < m) ⌝ }
     ensures { λ _. ⌜ now (half .exit) ≡ rowWritten 1 n m (now (row .entry)) (now (half .entry)) ⌝ }
 {
-    let span = m - 1;
-    let step = n - 1;
+    let span = (m - 1) as u32;
+    let step = (n - 1) as u32;
     let left = byte(row, 0);
-    let right = byte(row, 1 % n);
-    let mut s = Pair {
-        left,
-        right,
-        x: 0,
-        acc: span + step,
-    };
+    let mut right = byte(row, 1);
+    let mut value = between(left, right, span, 0);
+    let mut fall = fall_of(left, right, step);
+    let mut x = 0usize;
+    let mut acc = span;
     let mut j = 0usize;
-    while j < m {
-        s = next_pair(row, span, step, s);
-        half[j] = wrapping_add_u32(
-            wrapping_mul(s.left, s.acc as u32),
-            wrapping_mul(s.right, (span - s.acc) as u32),
-        );
+    loop {
+        half[j] = value;
         j += 1;
+        if acc >= step {
+            acc = acc - step;
+            value = minus(value, fall);
+            continue;
+        }
+        if x + 2 >= n {
+            break;
+        }
+        acc = acc + span - step;
+        let next = byte(row, x + 2);
+        value = between(right, next, acc, span - acc);
+        fall = fall_of(right, next, step);
+        right = next;
+        x += 1;
     }
 }
 
@@ -168,7 +171,7 @@ fn grow(row: &[u8], lanes: usize, n: usize, m: usize, half: &mut [u32])
     requires { ⌜ n < m ⌝ }
     ensures { λ _. ⌜ now (half .exit) ≡ rowWritten lanes n m (now (row .entry)) (now (half .entry)) ⌝ }
 {
-    if lanes == 1 {
+    if lanes == 1 && n > 1 {
         grow_lane(row, n, m, half);
         return;
     }

@@ -1,4 +1,4 @@
--- What the private functions of src/import.rt ask and ensure: relations between what goes in and what comes out. s are the row's bytes, n pixels of them;
+-- What private functions of the crates that import a row ask and ensure: relations between what goes in and what comes out. s are the row's bytes, n pixels of them;
 -- m is the target's width. The laws of proofs/Columns.antt lead from here to the values of specs/Column.antt. Assumes nothing.
 use Prim.Native.Nat.{ℕ, zero, suc, _+_, _-_, _*_, _≤_, _<_}
 use mathlib.Core.Path.{_≡_}
@@ -11,7 +11,8 @@ use Rattle.pixels_layout.specs.declared.Places.{Places}
 use Rattle.pixels.specs.Sizes.{pixelLanes, maxSide, halfValues}
 use Rattle.rows.specs.Lanes.{rowValue}
 use Rattle.rows.specs.WorkRows.{written}
-use Rattle.rows.specs.declared.import.Quad.{Quad}
+use Rattle.rows.specs.declared.Oct.{Oct}
+use Rattle.rows.specs.declared.Quad.{Quad}
 
 -- ---- four numbers
 abbrev pub at : Quad → ℕ → ℕ
@@ -26,6 +27,22 @@ pub record Four (P : ℕ → Type 0) : Type 0 where
   pub l1 : P 1
   pub l2 : P 2
   pub l3 : P 3
+
+-- ---- eight numbers, byte k of the first (h is 0) or the second of two pixels: those of the first of two pixels, then those of the second
+abbrev pub octAt : Oct → ℕ → ℕ → ℕ
+octAt o zero zero = o .a
+octAt o zero (suc zero) = o .b
+octAt o zero (suc (suc zero)) = o .c
+octAt o zero (suc (suc (suc k))) = o .d
+octAt o (suc h) zero = o .e
+octAt o (suc h) (suc zero) = o .f
+octAt o (suc h) (suc (suc zero)) = o .g
+octAt o (suc h) (suc (suc (suc k))) = o .h
+
+-- what holds of each
+pub record Eight (P : ℕ → ℕ → Type 0) : Type 0 where
+  pub even : Four (P 0)
+  pub odd : Four (P 1)
 
 -- stored at column j of a half
 abbrev pub stored : List ℕ → ℕ → Quad → List ℕ
@@ -62,81 +79,15 @@ pub record PixelAsks (s : List ℕ) (x : ℕ) : Type 0 where
   pub whole : pixelLanes * x + pixelLanes ≤ length s
   pub small : x < maxSide
 
-pub record InLanes (p : Places) (bytes : Quad) (alpha : ℕ) (r : Quad) : Type 0 where
-  pub blue : r .a ≡ at bytes (p .b)
-  pub green : r .b ≡ at bytes (p .g)
-  pub red : r .c ≡ at bytes (p .r)
-  pub alpha-is : r .d ≡ alpha
-
 -- ---- pixels summed: those from x up to next
 pub record Lane (p : ℕ → ℕ) (x next total last : ℕ) : Type 0 where
   pub sum-is : total ≡ sum p x (next - x)
   pub last-is : last ≡ p (next - 1)
 
-pub record GatherAsks (s : List ℕ) (n m need x pa : ℕ) : Type 0 where
-  pub m-pos : 0 < m
-  pub m-small : m ≤ maxSide
-  pub need-pos : 0 < need
-  pub enough : x * m + need ≤ n * m
-  pub n-small : n ≤ maxSide
-  pub whole : pixelLanes * n ≤ length s
-  pub alpha-in : pa < pixelLanes
-  pub bytes : Bytes s
-
-pub record Gathers (s : List ℕ) (m need x pa : ℕ) (total last : Quad) (alpha base next got : ℕ) : Type 0 where
-  pub more : x < next
-  pub made : got + x * m ≡ next * m
-  pub enough : need ≤ got
-  pub small : got < need + m
-  pub colours : Four (λ k. Lane (mattedAt s pa k) x next (at total k) (at last k))
-  pub alphas : Lane (byteAt s pa) x next alpha base
-
 -- ---- a column where the width does not grow
-pub record ColumnAsks (s : List ℕ) (n m x debt : ℕ) (carry : Quad) (p : Places) : Type 0 where
-  pub m-pos : 0 < m
-  pub m-small : m ≤ n
-  pub debt-small : debt < m
-  pub enough : x * m + n ≤ n * m + debt
-  pub n-small : n ≤ maxSide
-  pub whole : length s ≡ pixelLanes * n
-  pub places : Within p
-  pub bytes : Bytes s
-  pub carries : Four (λ k. at carry k ≤ 255)
-
 pub record LaneColumn (p : ℕ → ℕ) (m scale x next debt carry value carry' : ℕ) : Type 0 where
   pub value-is : value ≡ (carry + sum p x (next - x)) * m - p (next - 1) * debt
   pub carry-is : carry' ≡ MULT (p (next - 1) * debt) scale
-
-pub record Columns (s : List ℕ) (n m scale x debt : ℕ) (carry : Quad) (p : Places) (value carry' : Quad) (next debt' : ℕ) : Type 0 where
-  pub made : next * m + debt ≡ x * m + n + debt'
-  pub debt-small : debt' < m
-  pub each : Four (λ k. LaneColumn (laneBytes p s k) m scale x next debt' (at carry k) (at value k) (at carry' k))
-
--- ---- a column where the width grows
--- left is pixel x, and right the one after it if there is one
-pub record Stands (p : ℕ → ℕ → ℕ) (n : ℕ) (left right : Quad) (x : ℕ) : Type 0 where
-  pub inside : x < n
-  pub left-is : Four (λ k. at left k ≡ p k x)
-  pub right-is : suc x < n → Four (λ k. at right k ≡ p k (suc x))
-  pub right-byte : Four (λ k. at right k ≤ 255)
-
-pub record AdvanceAsks (s : List ℕ) (n span step : ℕ) (left right : Quad) (x acc : ℕ) (p : Places) : Type 0 where
-  pub stands : Stands (laneBytes p s) n left right x
-  pub more : acc < step → suc (suc x) < n
-  pub most : acc ≤ span + step
-  pub span-small : span < maxSide
-  pub step-small : step ≤ span
-  pub n-small : n ≤ maxSide
-  pub whole : pixelLanes * n ≤ length s
-  pub places : Within p
-  pub bytes : Bytes s
-
--- `acc` parts of pixel x are used up, `step` of them a column, and each pixel passed brings `span` more
-pub record Advances (s : List ℕ) (n span step : ℕ) (p : Places) (x acc : ℕ) (left right : Quad) (x' acc' : ℕ) : Type 0 where
-  pub stands : Stands (laneBytes p s) n left right x'
-  pub past : x ≤ x'
-  pub along : acc' + step + x * span ≡ acc + x' * span
-  pub small : acc' ≤ span
 
 -- ---- a row
 

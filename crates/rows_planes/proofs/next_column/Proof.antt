@@ -1,6 +1,6 @@
 -- `next_column`: one pixel more where the parts left over do not reach. Assumes nothing.
 use native.Mathlib.Omega.{arith}
-use Rattle.rows_planes.proofs.LaneColumns.{next-longer, next-even, each-small}
+use Rattle.rows.proofs.NextColumn.{next-longer, next-even, each-small}
 use borrow.Author.Needs.{needs}
 use Rattle.rows_planes.proofs.next_column.Statement.{statement}
 use Rattle.rows_planes.proofs.next_column.Tie as tie

@@ -1,5 +1,5 @@
 -- `shrink_lane`: column after column of one lane; x pixels are used and reach `over` parts past the columns made. Assumes nothing.
-use Prim.Native.Nat.{ℕ, suc, _+_, _-_, _*_, _/_, _%_, _≤_, _<_}
+use Prim.Native.Nat.{ℕ, _+_, _-_, _*_, _/_, _%_, _≤_, _<_}
 use mathlib.Core.Path.{_≡_, refl, sym, ap, _∙_}
 use mathlib.Core.Logic.{_⊎_, inl, inr, ⊎-elim}
 use Rattle.arithmetic.proofs.Orders.{le-or-lt}
@@ -7,11 +7,10 @@ use mathlib.Core.List.{List}
 use native.Mathlib.Omega.{arith}
 use native.Mathlib.Nat.{div-add-mod, mod-lt}
 use native.Mathlib.Numerals.{add-one}
-use lib.ListN.{length, getD, set}
+use lib.ListN.{getD, set}
 use Rattle.arithmetic.specs.Word.{wrapAdd}
 use Rattle.arithmetic.specs.FixedPoint.{FRAC}
-use Rattle.arithmetic.specs.Sum.{sum}
-use Rattle.arithmetic.proofs.Stores.{Stored, none-stored, place, store, same, all-stored}
+use Rattle.arithmetic.proofs.Stores.{Stored, none-stored, store, same, all-stored}
 use Rattle.rows.specs.Column as column
 use Rattle.rows.specs.Column.{Finished}
 use Rattle.rows.specs.Lanes.{rowValue}
@@ -19,9 +18,11 @@ use Rattle.rows.specs.WorkRows.{written}
 use Rattle.rows.proofs.Columns.{made-next}
 use Rattle.rows.proofs.Lanes.{row-value}
 use Rattle.rows_widening.specs.Inner.{byteOf, RowAsks, rowWritten}
-use Rattle.rows_planes.specs.Inner.{SumAsks, NextAsks, NextIs}
+use Rattle.rows.specs.Inner.NextColumn.{NextAsks, NextIs}
+use Rattle.rows_planes.specs.Inner.{SumAsks}
 use Rattle.rows_widening.proofs.RowBytes.{byteOf-byte, one-byte}
-use Rattle.rows_planes.proofs.LaneColumns.{LaneMade, lane-made, each-small, column-inside, next-longer, next-even, Reads, reads-longer, reads-even}
+use Rattle.rows.proofs.NextColumn.{LaneMade, lane-made, each-small, column-inside, next-longer, next-even}
+use Rattle.rows_planes.proofs.LaneColumns.{Reads, reads-longer, reads-even}
 use borrow.Author.Needs.{needs}
 use Rattle.rows_planes.proofs.shrink_lane.Statement.{statement}
 use Rattle.rows_planes.proofs.shrink_lane.Tie as tie

@@ -3,10 +3,9 @@ use Prim.Native.Nat.{ℕ, suc, _+_, _-_, _*_, _/_, _%_, _≤_, _<_}
 use mathlib.Core.Path.{_≡_, refl, sym, ap, _∙_}
 use mathlib.Core.List.{List, _++_}
 use native.Mathlib.Omega.{arith}
-use native.Mathlib.Nat.{mul-le-mul, mul-le-mul-left, mul-le-mul-right, div-add-mod, mod-lt, mul-zero}
+use native.Mathlib.Nat.{mul-le-mul, mul-le-mul-left, div-add-mod, mod-lt, mul-zero}
 use native.Mathlib.Numerals.{add-one}
-use lib.ListN.{length, getD, set, drop, replicate, length-append, length-drop, length-replicate, getD-replicate}
-use Rattle.arithmetic.specs.Word.{wrapAdd}
+use lib.ListN.{length, getD, drop, replicate, length-append, getD-replicate}
 use Rattle.arithmetic.specs.FixedPoint.{FRAC}
 use Rattle.arithmetic.specs.Table.{tabulate}
 use Rattle.arithmetic.proofs.Tables.{length-tabulate, getD-table}
@@ -16,10 +15,11 @@ use Rattle.rows.specs.Lanes.{rowValue}
 use Rattle.rows.proofs.Columns.{made-next}
 use Rattle.rows.proofs.Lanes.{row-value}
 use Rattle.rows_widening.specs.Inner.{byteOf, setAll, RowAsks, rowWritten}
-use Rattle.rows_planes.specs.Inner.{NextAsks, NextIs, columnValue, columnCarry, PutAsks}
+use Rattle.rows.specs.Inner.NextColumn.{NextAsks, NextIs}
+use Rattle.rows_planes.specs.Inner.{columnValue, columnCarry, PutAsks}
 use Rattle.rows_widening.proofs.Storing.{stored-all}
 use Rattle.rows_widening.proofs.RowBytes.{byteOf-byte}
-use Rattle.rows_planes.proofs.LaneColumns.{LaneMade, lane-made, column-inside}
+use Rattle.rows.proofs.NextColumn.{LaneMade, lane-made, column-inside}
 use borrow.Author.Needs.{needs}
 use Rattle.rows_planes.proofs.shrink_lanes.Statement.{statement}
 use Rattle.rows_planes.proofs.shrink_lanes.Tie as tie

@@ -1,55 +1,89 @@
--- `restore_pixel` meets its contract: the three colours are restored one after another by the alpha read first. Assumes nothing.
-use mathlib.Core.Path.{refl}
+-- `restore_pixel` meets its contract: its three colours are restored by the factor of its alpha. Assumes nothing.
 use native.Mathlib.Omega.{arith}
-use borrow.Author.Needs.{needs}
+use lib.ListN.{length-set}
 use Rattle.rows_restoring.proofs.RestoredPixels.{colours-put}
+use borrow.Author.Needs.{needs}
 use Rattle.rows_restoring.proofs.restore_pixel.Statement.{statement}
 use Rattle.rows_restoring.proofs.restore_pixel.Tie as tie
 
-add-alpha : tie.Need-add-alpha
-add-alpha c = search needs
+add-factor-of : tie.Need-add-factor-of
+add-factor-of c = search needs
 
-slice-read-alpha : tie.Need-slice-read-alpha
-slice-read-alpha c = search needs
+slice-read-factor-of : tie.Need-slice-read-factor-of
+slice-read-factor-of c = search needs
 
-restore-byte-requires : tie.Need-restore-byte-requires
-restore-byte-requires c κs = search needs
+factor-of-requires : tie.Need-factor-of-requires
+factor-of-requires c κs = search needs
 
-add-restore-byte : tie.Need-add-restore-byte
-add-restore-byte c = search needs
+slice-read-restored : tie.Need-slice-read-restored
+slice-read-restored c = search needs
 
-restore-byte-requires-2 : tie.Need-restore-byte-requires-2
-restore-byte-requires-2 c κs = search needs
+restored-requires : tie.Need-restored-requires
+restored-requires c κs = search needs
 
-add-restore-byte-2 : tie.Need-add-restore-byte-2
-add-restore-byte-2 c = search needs
+add-restored : tie.Need-add-restored
+add-restored c = search needs
 
-restore-byte-requires-3 : tie.Need-restore-byte-requires-3
-restore-byte-requires-3 c κs =
-    let first = c .before .before .before .before .before .before .before in
-    (omega (arith, first .restore-byte .kept .0, c .before .before .before .restore-byte2 .kept .0), first .before .before .before .before .pre .1)
+slice-read-restored-2 : tie.Need-slice-read-restored-2
+slice-read-restored-2 c = search needs
+
+restored-requires-2 : tie.Need-restored-requires-2
+restored-requires-2 c κs = search needs
+
+add-restored-2 : tie.Need-add-restored-2
+add-restored-2 c = search needs
+
+slice-read-restored-3 : tie.Need-slice-read-restored-3
+slice-read-restored-3 c = search needs
+
+restored-requires-3 : tie.Need-restored-requires-3
+restored-requires-3 c κs = search needs
+
+slice-write-out : tie.Need-slice-write-out
+slice-write-out c = search needs
+
+add-out : tie.Need-add-out
+add-out c = search needs
+
+slice-write-out-2 : tie.Need-slice-write-out-2
+slice-write-out-2 c = simp length-set (omega arith)
+
+add-out-2 : tie.Need-add-out-2
+add-out-2 c = search needs
+
+slice-write-out-3 : tie.Need-slice-write-out-3
+slice-write-out-3 c = simp length-set (omega arith)
 
 same-length : tie.Need-same-length
 same-length c = search needs
 
 returns : tie.Need-returns
 returns c =
-    let third = c .before .before in
-    let second = third .before .before .before .before in
-    let first = second .before .before .before .before in
-    let a = first .before .before .before .before .args in
-    colours-put (a .out .now) (a .at) refl (first .restore-byte .ensures) (second .restore-byte2 .ensures) (third .restore-byte3 .ensures)
+    let second = c .before .before in
+    let first = second .before .before in
+    let alpha = first .before .before in
+    let a = alpha .before .before .before .args in
+    colours-put (a .out .now) (a .at) (alpha .factor-of .ensures) (first .restored .ensures) (second .restored2 .ensures) (c .restored3 .ensures)
 
 pub restore-pixel-spec : {M : Type 1} → statement M
 restore-pixel-spec =
     tie.close
     (tie.spec
-    add-alpha
-    slice-read-alpha
-    restore-byte-requires
-    add-restore-byte
-    restore-byte-requires-2
-    add-restore-byte-2
-    restore-byte-requires-3
+    add-factor-of
+    slice-read-factor-of
+    factor-of-requires
+    slice-read-restored
+    restored-requires
+    add-restored
+    slice-read-restored-2
+    restored-requires-2
+    add-restored-2
+    slice-read-restored-3
+    restored-requires-3
+    slice-write-out
+    add-out
+    slice-write-out-2
+    add-out-2
+    slice-write-out-3
     same-length
     returns)

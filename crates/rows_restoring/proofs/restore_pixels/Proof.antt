@@ -1,22 +1,19 @@
--- `restore_pixels` meets its contract: each turn restores the next pixel or finds it opaque, and the flag is that of the alphas so far. Assumes nothing.
+-- `restore_pixels` meets its contract: each turn restores the next pixel or finds it opaque. Assumes nothing.
 use Prim.Native.Nat.{ℕ, _-_, _≤_, _<_}
-use mathlib.Core.Path.{_≡_, ap, _∙_}
 use mathlib.Core.Logic.{⊎-elim}
 use native.Mathlib.Omega.{arith}
 use lib.ListN.{getD}
 use borrow.Author.Needs.{needs}
 use Rattle.arithmetic.proofs.Stores.{same, filled}
-use Rattle.pixels_alpha.specs.Alpha.{someClear}
-use Rattle.rows_restoring.specs.Inner.Restoring.{alphaIn}
 use Rattle.rows_restoring.proofs.RestoredPixels.{Restoring, restore-first, restore-turn, opaque-turn}
 use Rattle.rows_restoring.proofs.restore_pixels.Statement.{statement}
 use Rattle.rows_restoring.proofs.restore_pixels.Tie as tie
 
 abbrev Inv-loop : tie.InvT-loop
-Inv-loop out₀ m factors clear₀ j₀ out clear j = (j ≤ m) × Restoring out₀ out m j clear
+Inv-loop out₀ m factors j₀ out j = (j ≤ m) × Restoring out₀ out m j
 
 abbrev μ-loop : tie.MeasureT-loop
-μ-loop out₀ m factors clear₀ j₀ out clear j = m - j
+μ-loop out₀ m factors j₀ out j = m - j
 
 loop-holds : tie.Need-loop-holds Inv-loop μ-loop
 loop-holds c = (omega arith, restore-first (c .before .args .out .now) (c .before .args .m) (c .before .pre .0))
@@ -44,12 +41,13 @@ loop-less c = search needs
 loop-again : tie.Need-loop-again Inv-loop μ-loop
 loop-again c =
     let l = c .before .before .before .loop in
-    let small : (y : ℕ) → getD (c .before .before .before .before .before .args .out .now) y 0 < 256 = λ y. c .before .before .before .before .slice-known .given y .fits in
+    let start = c .before .before .before .before in
+    let small : (y : ℕ) → getD (start .before .args .out .now) y 0 < 256 = λ y. start .slice-known .given y .fits in
     let more = c .before .before .loop-test .taken in (
       omega arith,
       ⊎-elim
-          (λ w. rw (w .6, w .5) (restore-turn small (l .inv .1) more (w .0 .taken) (w .2 .ensures)))
-          (λ w. rw (w .2, w .1) (opaque-turn small (l .inv .1) more (w .0 .left)))
+          (λ w. rw (w .5) (restore-turn small (l .inv .1) more (w .2 .ensures)))
+          (λ w. rw (w .1) (opaque-turn small (l .inv .1) more (w .0 .left)))
           (c .if1 .came),
     )
 
@@ -57,11 +55,7 @@ same-length : tie.Need-same-length Inv-loop μ-loop
 same-length c = same (c .before .loop .inv .1 .bytes)
 
 returns : tie.Need-returns Inv-loop μ-loop
-returns c =
-    let l = c .before .loop in
-    let start = c .before .before .before in
-    let e : l .j ≡ start .args .m = omega arith in
-    (l .inv .1 .flag-is ∙ ap (someClear (alphaIn (start .args .out .now))) e, filled (l .inv .1 .bytes) (start .pre .0) (omega arith))
+returns c = filled (c .before .loop .inv .1 .bytes) (c .before .before .before .pre .0) (omega arith)
 
 pub restore-pixels-spec : {M : Type 1} → statement M
 restore-pixels-spec =

@@ -1,11 +1,11 @@
--- `reverse_lanes` meets its contract: each turn reverses the four bytes of the next pixel. Assumes nothing.
-use Rattle.rows_restoring.proofs.RestoredPixels.{Ordered, order-first, reverse-turn}
-use Rattle.pixels_layout.specs.declared.PixelLayout.the-variants.{Argb8}
-use Rattle.arithmetic.proofs.Stores.{same, filled}
-use lib.ListN.{length-set}
-use Prim.Native.Nat.{_-_, _≤_}
+-- `reverse_lanes` meets its contract: each turn reverses the lanes of the next pixel. Assumes nothing.
+use Prim.Native.Nat.{ℕ, _-_, _≤_, _<_}
 use native.Mathlib.Omega.{arith}
+use lib.ListN.{getD}
 use borrow.Author.Needs.{needs}
+use Rattle.arithmetic.proofs.Stores.{same, filled}
+use Rattle.pixels_layout.specs.declared.PixelLayout.the-variants.{Argb8}
+use Rattle.rows_restoring.proofs.RestoredPixels.{Ordered, order-first, order-turn}
 use Rattle.rows_restoring.proofs.reverse_lanes.Statement.{statement}
 use Rattle.rows_restoring.proofs.reverse_lanes.Tie as tie
 
@@ -16,52 +16,19 @@ abbrev μ-loop : tie.MeasureT-loop
 μ-loop out₀ m j₀ out j = m - j
 
 loop-holds : tie.Need-loop-holds Inv-loop μ-loop
-loop-holds c = (omega arith, order-first Argb8 (c .args .out .now) (c .args .m) (c .pre))
+loop-holds c = (omega arith, order-first Argb8 (c .before .args .out .now) (c .before .args .m) (c .before .pre))
 
 mul-at : tie.Need-mul-at Inv-loop μ-loop
 mul-at c = search needs
 
-slice-read-b : tie.Need-slice-read-b Inv-loop μ-loop
-slice-read-b c = omega (arith, same (c .before .before .loop .inv .1 .bytes))
+word-requires : tie.Need-word-requires Inv-loop μ-loop
+word-requires c κs = omega (arith, same (c .before .before .loop .inv .1 .bytes))
 
-add-g : tie.Need-add-g Inv-loop μ-loop
-add-g c = search needs
+reversed-requires : tie.Need-reversed-requires Inv-loop μ-loop
+reversed-requires c κs = search needs
 
-slice-read-g : tie.Need-slice-read-g Inv-loop μ-loop
-slice-read-g c = omega (arith, same (c .before .before .before .loop .inv .1 .bytes))
-
-add-r : tie.Need-add-r Inv-loop μ-loop
-add-r c = search needs
-
-slice-read-r : tie.Need-slice-read-r Inv-loop μ-loop
-slice-read-r c = omega (arith, same (c .before .before .before .before .loop .inv .1 .bytes))
-
-add-out : tie.Need-add-out Inv-loop μ-loop
-add-out c = search needs
-
-slice-read-out : tie.Need-slice-read-out Inv-loop μ-loop
-slice-read-out c = omega (arith, same (c .before .before .before .before .before .loop .inv .1 .bytes))
-
-slice-write-out : tie.Need-slice-write-out Inv-loop μ-loop
-slice-write-out c = omega (arith, same (c .before .before .before .before .before .loop .inv .1 .bytes))
-
-add-out-2 : tie.Need-add-out-2 Inv-loop μ-loop
-add-out-2 c = search needs
-
-slice-write-out-2 : tie.Need-slice-write-out-2 Inv-loop μ-loop
-slice-write-out-2 c = simp length-set (omega (arith, same (c .before .before .before .before .before .loop .inv .1 .bytes)))
-
-add-out-3 : tie.Need-add-out-3 Inv-loop μ-loop
-add-out-3 c = search needs
-
-slice-write-out-3 : tie.Need-slice-write-out-3 Inv-loop μ-loop
-slice-write-out-3 c = simp length-set (omega (arith, same (c .before .before .before .before .before .loop .inv .1 .bytes)))
-
-add-out-4 : tie.Need-add-out-4 Inv-loop μ-loop
-add-out-4 c = search needs
-
-slice-write-out-4 : tie.Need-slice-write-out-4 Inv-loop μ-loop
-slice-write-out-4 c = simp length-set (omega (arith, same (c .before .before .before .before .before .loop .inv .1 .bytes)))
+put-word-requires : tie.Need-put-word-requires Inv-loop μ-loop
+put-word-requires c κs = omega (arith, same (c .before .before .before .before .before .loop .inv .1 .bytes))
 
 add-j : tie.Need-add-j Inv-loop μ-loop
 add-j c = search needs
@@ -71,14 +38,18 @@ loop-less c = search needs
 
 loop-again : tie.Need-loop-again Inv-loop μ-loop
 loop-again c =
-    let b = c .before .before .before .before in
-    (omega arith, reverse-turn (b .before .loop .inv .1) (b .loop-test .taken))
+    let put = c .before .before in
+    let read = put .before .before .before in
+    let turn = read .before .before in
+    let start = turn .before .before in
+    let small : (y : ℕ) → getD (start .before .args .out .now) y 0 < 256 = λ y. start .slice-known .given y .fits in
+    (omega arith, order-turn Argb8 small (turn .before .loop .inv .1) (turn .loop-test .taken) (read .word .ensures) (put .before .reversed .ensures) (put .put-word .ensures))
 
 same-length : tie.Need-same-length Inv-loop μ-loop
 same-length c = same (c .before .loop .inv .1 .bytes)
 
 returns : tie.Need-returns Inv-loop μ-loop
-returns c = filled (c .before .loop .inv .1 .bytes) (c .before .before .pre) (omega arith)
+returns c = filled (c .before .loop .inv .1 .bytes) (c .before .before .before .pre) (omega arith)
 
 pub reverse-lanes-spec : {M : Type 1} → statement M
 reverse-lanes-spec =
@@ -88,20 +59,9 @@ reverse-lanes-spec =
     μ-loop
     loop-holds
     mul-at
-    slice-read-b
-    add-g
-    slice-read-g
-    add-r
-    slice-read-r
-    add-out
-    slice-read-out
-    slice-write-out
-    add-out-2
-    slice-write-out-2
-    add-out-3
-    slice-write-out-3
-    add-out-4
-    slice-write-out-4
+    word-requires
+    reversed-requires
+    put-word-requires
     add-j
     loop-less
     loop-again

@@ -84,15 +84,27 @@ returns c =
     let words : (i : ℕ) → getD (a .work .now) i 0 < 2 ^ 32 = λ i. k .shared-slice-known .given i .fits in
     level-out (scaleIn (a .s)) (a .used) (a .row) (a .work .now) up words rest factor new old (c .before .before .before .before .if1 .taken) (c .before .before .level-lanes .ensures)
 
+sub-next-of : tie.Need-sub-next-of
+sub-next-of c = let p = c .before .before .before .before .before .before .before .before .before .before .before .pre in omega (arith, up-some (p .0) (p .1 .0))
+
+next-of-requires : tie.Need-next-of-requires
+next-of-requires c κs = search needs
+
+next-of-requires-2 : tie.Need-next-of-requires-2
+next-of-requires-2 c κs = search needs
+
 blend-lanes-requires : tie.Need-blend-lanes-requires
 blend-lanes-requires c κs =
-    let b = c .before .before .before .before .before .before .before .before .before .before .before .before in
+    let b = c .before .before .before .before .before .before .before .before .before .before .before .before .before .before in
     let u = b .args .used in
-    let new = c .before .before .before .before .half-of .ensures in
-    let old = c .before .before .before .half-of2 .ensures in
-    let factor = c .before .before .before .before .before .factor-up .ensures in (
+    let new = c .before .before .before .before .before .before .half-of .ensures in
+    let old = c .before .before .before .before .before .half-of2 .ensures in
+    let factor = c .before .before .before .before .before .before .before .factor-up .ensures in (
       grow-room (u - 1) u (b .pre .1 .1) new old,
-      (omega (arith, c .before .if1 .left), factor-half (b .args .s .span) factor),
+      (
+        (omega (arith, new, c .before .before .next-of .ensures), omega (arith, old, c .before .next-of2 .ensures)),
+        (omega (arith, c .before .before .before .if1 .left), factor-half (b .args .s .span) factor),
+      ),
     )
 
 same-length-2 : tie.Need-same-length-2
@@ -100,14 +112,14 @@ same-length-2 c = search needs
 
 returns-2 : tie.Need-returns-2
 returns-2 c =
-    let k = c .before .before .before .before .before .before .before .before .before .before .before .before .before in
+    let k = c .before .before .before .before .before .before .before .before .before .before .before .before .before .before .before in
     let b = k .before .before in
     let a = b .args in
     let up = b .pre .1 .0 in
-    let rest = c .before .before .before .before .before .before .before .before .before .frac .ensures in
-    let factor = c .before .before .before .before .before .before .before .before .factor-up .ensures in
-    let new = c .before .before .before .before .before .before .before .half-of .ensures in
-    let old = c .before .before .before .before .before .before .half-of2 .ensures in
+    let rest = c .before .before .before .before .before .before .before .before .before .before .before .frac .ensures in
+    let factor = c .before .before .before .before .before .before .before .before .before .before .factor-up .ensures in
+    let new = c .before .before .before .before .before .before .before .before .before .half-of .ensures in
+    let old = c .before .before .before .before .before .before .before .before .half-of2 .ensures in
     let words : (i : ℕ) → getD (a .work .now) i 0 < 2 ^ 32 = λ i. k .shared-slice-known .given i .fits in
     grow-out (scaleIn (a .s)) (a .used) (a .row) (a .work .now) up words rest factor new old (c .before .before .blend-lanes .ensures)
 
@@ -134,6 +146,9 @@ grow-row-spec =
     level-lanes-requires
     same-length
     returns
+    sub-next-of
+    next-of-requires
+    next-of-requires-2
     blend-lanes-requires
     same-length-2
     returns-2)

@@ -1,9 +1,8 @@
 -- `level_lanes` meets its contract: each turn stores the byte of the newer value; the factor fits the signed tests where they are used. Assumes nothing.
-use Rattle.rows_scaling.proofs.Clamp.{MULT-halved}
-use Rattle.rows_scaling.proofs.BlendLanes.{Grown, grow-first, level-turn}
+use Rattle.rows_scaling.proofs.BlendLanes.{Grown, grow-first, level-one}
 use Rattle.arithmetic.proofs.Stores.{same, filled}
 use native.Mathlib.Omega.{arith}
-use Prim.Native.Nat.{_+_, _-_}
+use Prim.Native.Nat.{_-_}
 use borrow.Author.Needs.{needs}
 use Rattle.rows_scaling.proofs.level_lanes.Statement.{statement}
 use Rattle.rows_scaling.proofs.level_lanes.Tie as tie
@@ -17,23 +16,20 @@ abbrev μ-loop : tie.MeasureT-loop
 loop-holds : tie.Need-loop-holds Inv-loop μ-loop
 loop-holds c = grow-first 0 (c .before .before .args .factor) (c .before .before .pre .0)
 
-add-mult-fix : tie.Need-add-mult-fix Inv-loop μ-loop
-add-mult-fix c = search needs
+add-byte-by : tie.Need-add-byte-by Inv-loop μ-loop
+add-byte-by c = search needs
 
-mul-mult-fix : tie.Need-mul-mult-fix Inv-loop μ-loop
-mul-mult-fix c = search needs
+mul-byte-by : tie.Need-mul-byte-by Inv-loop μ-loop
+mul-byte-by c = search needs
 
-shared-slice-read-mult-fix : tie.Need-shared-slice-read-mult-fix Inv-loop μ-loop
-shared-slice-read-mult-fix c = search needs
+shared-slice-read-byte-by : tie.Need-shared-slice-read-byte-by Inv-loop μ-loop
+shared-slice-read-byte-by c = search needs
 
-mult-fix-requires : tie.Need-mult-fix-requires Inv-loop μ-loop
-mult-fix-requires c κs = search needs
-
-byte-of-requires : tie.Need-byte-of-requires Inv-loop μ-loop
-byte-of-requires c κs = MULT-halved (c .before .before .before .before .before .before .pre .1) (c .before .shared-slice-known2 .given (c .before .before .before .before .before .before .args .new + c .before .before .before .loop .k) .fits) (c .mult-fix .ensures)
+byte-by-requires : tie.Need-byte-by-requires Inv-loop μ-loop
+byte-by-requires c κs = search needs
 
 slice-write-out : tie.Need-slice-write-out Inv-loop μ-loop
-slice-write-out c = omega (arith, same (c .before .before .before .before .loop .inv .bytes))
+slice-write-out c = omega (arith, same (c .before .before .before .loop .inv .bytes))
 
 add-k : tie.Need-add-k Inv-loop μ-loop
 add-k c = search needs
@@ -42,7 +38,7 @@ loop-less : tie.Need-loop-less Inv-loop μ-loop
 loop-less c = search needs
 
 loop-again : tie.Need-loop-again Inv-loop μ-loop
-loop-again c = level-turn (c .before .before .before .before .loop .inv) (c .before .mult-fix .result) (c .byte-of .result) (c .before .before .before .loop-test .taken) (c .before .mult-fix .ensures) (c .byte-of .ensures)
+loop-again c = level-one (c .before .before .before .loop .inv) (c .before .before .loop-test .taken) (c .byte-by .ensures)
 
 same-length : tie.Need-same-length Inv-loop μ-loop
 same-length c = same (c .before .loop .inv .bytes)
@@ -57,11 +53,10 @@ level-lanes-spec =
     Inv-loop
     μ-loop
     loop-holds
-    add-mult-fix
-    mul-mult-fix
-    shared-slice-read-mult-fix
-    mult-fix-requires
-    byte-of-requires
+    add-byte-by
+    mul-byte-by
+    shared-slice-read-byte-by
+    byte-by-requires
     slice-write-out
     add-k
     loop-less

@@ -1,5 +1,4 @@
 -- `shrink_lanes` meets its contract: each turn stores f and the byte that it leaves; the ratio is below 2^31, so the byte is clamped by signed tests. Assumes nothing.
-use Rattle.rows_scaling.proofs.Clamp.{MULT-halved}
 use Rattle.rows_scaling.proofs.ShrinkLanes.{Shrunk, shrink-first, shrink-turn}
 use Rattle.arithmetic.proofs.Stores.{same, all-stored, filled}
 use native.Mathlib.Omega.{arith}
@@ -17,17 +16,17 @@ abbrev μ-loop : tie.MeasureT-loop
 loop-holds : tie.Need-loop-holds Inv-loop μ-loop
 loop-holds c = shrink-first (c .before .before .args .step) (c .before .before .args .q) (c .before .before .pre .0)
 
-add-mult-fix-floor : tie.Need-add-mult-fix-floor Inv-loop μ-loop
-add-mult-fix-floor c = search needs
+add-share-of : tie.Need-add-share-of Inv-loop μ-loop
+add-share-of c = search needs
 
-mul-mult-fix-floor : tie.Need-mul-mult-fix-floor Inv-loop μ-loop
-mul-mult-fix-floor c = search needs
+mul-share-of : tie.Need-mul-share-of Inv-loop μ-loop
+mul-share-of c = search needs
 
-slice-read-mult-fix-floor : tie.Need-slice-read-mult-fix-floor Inv-loop μ-loop
-slice-read-mult-fix-floor c = omega (arith, same (c .before .before .loop .inv .left))
+slice-read-share-of : tie.Need-slice-read-share-of Inv-loop μ-loop
+slice-read-share-of c = omega (arith, same (c .before .before .loop .inv .left))
 
-mult-fix-floor-requires : tie.Need-mult-fix-floor-requires Inv-loop μ-loop
-mult-fix-floor-requires c κs = search needs
+share-of-requires : tie.Need-share-of-requires Inv-loop μ-loop
+share-of-requires c κs = search needs
 
 mul-wrapping-sub-u32 : tie.Need-mul-wrapping-sub-u32 Inv-loop μ-loop
 mul-wrapping-sub-u32 c = search needs
@@ -38,21 +37,17 @@ slice-read-wrapping-sub-u32 c = omega (arith, same (c .before .before .before .b
 wrapping-sub-u32-requires : tie.Need-wrapping-sub-u32-requires Inv-loop μ-loop
 wrapping-sub-u32-requires c κs = search needs
 
-mult-fix-requires : tie.Need-mult-fix-requires Inv-loop μ-loop
-mult-fix-requires c κs = search needs
-
-byte-of-requires : tie.Need-byte-of-requires Inv-loop μ-loop
-byte-of-requires c κs =
-    MULT-halved (c .before .before .before .before .before .before .before .before .before .pre .1) (c .before .wrapping-sub-u32 .ok) (c .mult-fix .ensures)
+byte-by-requires : tie.Need-byte-by-requires Inv-loop μ-loop
+byte-by-requires c κs = search needs
 
 slice-write-out : tie.Need-slice-write-out Inv-loop μ-loop
-slice-write-out c = omega (arith, same (c .before .before .before .before .before .before .before .loop .inv .bytes))
+slice-write-out c = omega (arith, same (c .before .before .before .before .before .before .loop .inv .bytes))
 
 mul-work : tie.Need-mul-work Inv-loop μ-loop
 mul-work c = search needs
 
 slice-write-work : tie.Need-slice-write-work Inv-loop μ-loop
-slice-write-work c = omega (arith, same (c .before .before .before .before .before .before .before .loop .inv .left))
+slice-write-work c = omega (arith, same (c .before .before .before .before .before .before .loop .inv .left))
 
 add-k : tie.Need-add-k Inv-loop μ-loop
 add-k c = search needs
@@ -62,11 +57,10 @@ loop-less c = search needs
 
 loop-again : tie.Need-loop-again Inv-loop μ-loop
 loop-again c =
-    let b = c .before .before .before in
-    shrink-turn (b .before .before .before .before .loop .inv) (b .before .mult-fix-floor .result) (c .before .before .wrapping-sub-u32 .result)
-    (c .before .mult-fix .result) (c .byte-of .result) (b .before .before .before .loop-test .taken) (b .before .mult-fix-floor .ok)
-    (c .before .before .wrapping-sub-u32 .ok) (b .slice-known4 .given (b .before .before .before .before .loop .k) .fits)
-    (b .before .mult-fix-floor .ensures) (c .before .before .wrapping-sub-u32 .ensures) (c .before .mult-fix .ensures) (c .byte-of .ensures)
+    let b = c .before .before in
+    let l = b .before .before .before .before .loop in
+    shrink-turn (l .inv) (b .before .before .before .loop-test .taken) (b .before .share-of .ok) (c .before .wrapping-sub-u32 .ok)
+    (b .slice-known4 .given (l .k) .fits) (b .before .share-of .ensures) (c .before .wrapping-sub-u32 .ensures) (c .byte-by .ensures)
 
 same-length : tie.Need-same-length Inv-loop μ-loop
 same-length c = same (c .before .loop .inv .left)
@@ -85,15 +79,14 @@ shrink-lanes-spec =
     Inv-loop
     μ-loop
     loop-holds
-    add-mult-fix-floor
-    mul-mult-fix-floor
-    slice-read-mult-fix-floor
-    mult-fix-floor-requires
+    add-share-of
+    mul-share-of
+    slice-read-share-of
+    share-of-requires
     mul-wrapping-sub-u32
     slice-read-wrapping-sub-u32
     wrapping-sub-u32-requires
-    mult-fix-requires
-    byte-of-requires
+    byte-by-requires
     slice-write-out
     mul-work
     slice-write-work

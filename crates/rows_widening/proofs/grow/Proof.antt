@@ -1,20 +1,24 @@
--- `grow`: one lane, or several. Assumes nothing.
+-- `grow`: one lane of two pixels or more, or any row. Assumes nothing.
 use mathlib.Core.Path.{_≡_, sym}
 use borrow.Author.Needs.{needs}
+use borrow.Author.Tests.{ltb-true}
 use Rattle.rows_widening.proofs.grow.Statement.{statement}
 use Rattle.rows_widening.proofs.grow.Tie as tie
 
 grow-lane-requires : tie.Need-grow-lane-requires
-grow-lane-requires c κs = let e = c .before .if1 .taken in (rw e at (c .before .before .before .before .pre .0), c .before .before .before .before .pre .1)
+grow-lane-requires c κs =
+    let pre = c .before .before .before .before .before .pre in
+    let e = c .before .before .if1 .taken in
+    (rw e at (pre .0), (ltb-true 1 _ (c .before .if2 .taken), pre .1))
 
 same-length : tie.Need-same-length
 same-length c = search needs
 
 returns : tie.Need-returns
-returns c = let e = c .before .before .before .before .if1 .taken in rw (sym e) at (c .before .before .grow-lane .ensures)
+returns c = let e = c .before .before .before .before .before .if1 .taken in rw (sym e) at (c .before .before .grow-lane .ensures)
 
 grow-lanes-requires : tie.Need-grow-lanes-requires
-grow-lanes-requires c κs = (c .before .before .before .before .pre .0, c .before .before .before .before .pre .1)
+grow-lanes-requires c κs = let pre = c .before .before .before .before .pre in (pre .0, pre .1)
 
 same-length-2 : tie.Need-same-length-2
 same-length-2 c = search needs

@@ -1,0 +1,4 @@
+pub mod Tones
+pub mod Pairs
+pub mod GrownRows
+pub mod Widened
