@@ -3,6 +3,7 @@
 judge these (oracle/README.md, "What is left out"). Jobs and answers are the oracle's stream (the same page, "Jobs and answers").
 
   tests/spill_model.py DRIVER     DRIVER is oracle/ours.c, linked with the library
+  tests/spill_model.py            the model alone
 """
 import random
 import subprocess
@@ -362,10 +363,6 @@ def differing(answers, others):
 def main():
     planes, pictures = all_jobs()
     jobs = planes + pictures
-    ran = subprocess.run(sys.argv[1:2], input="\n".join(jobs) + "\n", stdout=subprocess.PIPE, text=True, check=False)
-    answers = ran.stdout.splitlines()
-    if ran.returncode or len(answers) != len(jobs):
-        fail(f"{len(answers)} answers to {len(jobs)} jobs, exit status {ran.returncode}")
     rule = Rule(model.restore)
     expected = [answer(job, rule) for job in jobs[:3]]
     if rule.pixels != 3 * sum(255 - alpha for alpha in range(1, 255)):
@@ -375,28 +372,42 @@ def main():
     expected += [answer(job, rule) for job in pictures]
     if rule.jobs < of_planes + len(pictures) // 2:
         fail("not even half of the pictures have a colour above an alpha that is not 0")
+    if sys.argv[1:]:
+        compare(sys.argv[1], jobs, expected)
+        print(f"spill-model: {len(jobs)} jobs as the model says; in {rule.jobs} of them ({rule.jobs - of_planes} pictures whose sums wrap), {rule.rows} rows, {rule.pixels} "
+              "pixels, a colour is above an alpha that is not 0; an altered answer is found")
+    else:
+        others(planes, expected)
+
+
+def compare(driver, jobs, expected):
+    """The library's answers are the model's."""
+    ran = subprocess.run([driver], input="\n".join(jobs) + "\n", stdout=subprocess.PIPE, text=True, check=False)
+    answers = ran.stdout.splitlines()
+    if ran.returncode or len(answers) != len(jobs):
+        fail(f"{len(answers)} answers to {len(jobs)} jobs, exit status {ran.returncode}")
     wrong = differing(answers, expected)
     for i in sorted(wrong, key=lambda i: len(jobs[i]))[:5]:
         print(f"  job     {jobs[i][:300]}\n  model   {expected[i][:300]}\n  library {answers[i][:300]}", file=sys.stderr)
     if wrong:
         fail(f"{len(wrong)} of {len(jobs)} jobs differ")
-    print(f"spill-model: {len(jobs)} jobs as the model says; in {rule.jobs} of them ({rule.jobs - of_planes} pictures whose sums wrap), {rule.rows} rows, {rule.pixels} pixels, "
-          "a colour is above an alpha that is not 0")
+    answers[len(jobs) // 2] += "0"
+    if len(differing(answers, expected)) != 1:
+        fail("an altered answer was not found")
 
-    # It can say no: the restores of the Rust and of libwebp are found, and so is one altered answer.
+
+def others(planes, expected):
+    """The jobs can say no: with the restores of the Rust and of libwebp some are answered otherwise."""
     found = []
     for name, restored in (("the Rust's", spilled), ("libwebp's", wrapped)):
-        count = len(differing(answers, [answer(job, Rule(restored)) for job in planes]))
+        count = len(differing(expected, [answer(job, Rule(restored)) for job in planes]))
         if not count:
-            fail(f"{name} restore was not found")
+            fail(f"{name} restore is not told apart")
         found.append(f"{name} in {count}")
     for restored, pixel in EXAMPLE_PIXEL.items():
         if answer(EXAMPLE, Rule(restored)).split()[2] != 16384 * pixel:
             fail(f"the example is not {pixel}")
-    answers[len(jobs) // 2] += "0"
-    if len(differing(answers, expected)) != 1:
-        fail("an altered answer was not found")
-    print(f"spill-model: with another restore jobs differ: {', '.join(found)}; an altered answer is found")
+    print(f"spill-model: the model alone; with another restore of {len(planes)} jobs differ: {', '.join(found)}")
 
 
 main()
