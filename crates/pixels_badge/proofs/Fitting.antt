@@ -9,7 +9,7 @@ use lib.ListN.{length}
 use Rattle.pixels.specs.declared.Dimensions.{Dimensions}
 use Rattle.pixels.specs.Sizes.{pixelLanes, pictureBytes}
 use Rattle.pixels.proofs.Truths.{neither-true, same-of}
-use Rattle.pixels.proofs.Causes.{none-applies}
+use Rattle.pixels.proofs.Causes.{Pass, none-applies}
 use Rattle.pixels_layout.specs.declared.PixelLayout.{PixelLayout}
 use Rattle.pixels_alpha.specs.Alpha.{hasAlpha}
 use Rattle.pixels_badge.specs.Badge.{bothCauses, bothNumber, badgeCauses, badgeNumber}
@@ -27,20 +27,32 @@ flag-is size layout pixels badgeSize m z e =
     let p = none-applies (bothCauses size (length pixels) badgeSize m) z in
     e ∙ ap (hasAlpha layout pixels) (whole (length pixels) (size .width) (size .height) (same-of (length pixels) _ (p .1 .1 .0)))
 
--- what laying asks
-pub lay-fits : (size : Dimensions) (layout : PixelLayout) (pixels : List ℕ) (badgeSize : Dimensions) (badge : List ℕ) → badgeNumber size layout pixels badgeSize (length badge) ≡ 0
-    → LayAsks layout pixels badge
-unfolding badgeNumber
-lay-fits size layout pixels badgeSize badge z =
-    let p = none-applies (badgeCauses size layout pixels badgeSize (length badge)) z in
-    let n = same-of (length pixels) _ (p .1 .1 .0) in
-    let m = same-of (length badge) _ (p .1 .1 .1 .0) in
-    let o = neither-true (not (eqb (size .width) (badgeSize .width))) (not (eqb (size .height) (badgeSize .height))) (p .1 .1 .1 .1 .0) in
-    let wide = same-of (size .width) (badgeSize .width) (o .0) in
-    let high = same-of (size .height) (badgeSize .height) (o .1) in
-    let alike : length badge ≡ length pixels = m ∙ rw (sym wide, sym high) (sym n) in
-    record {
-      long = omega arith;
-      alike = alike;
-      opaque = ap (hasAlpha layout pixels) (whole (length pixels) (size .width) (size .height) n) ∙ p .1 .1 .1 .1 .1 .0;
-    }
+-- what a background that passes has, of n pixels
+pub record PictureFits (layout : PixelLayout) (pixels : List ℕ) (n : ℕ) : Type 0 where
+  pub long : length pixels ≡ pixelLanes * n
+  pub opaque : hasAlpha layout pixels n ≡ false
+
+module _ (size : Dimensions) (layout : PixelLayout) (pixels : List ℕ) (badgeSize : Dimensions) (badge : List ℕ)
+    (z : badgeNumber size layout pixels badgeSize (length badge) ≡ 0) where
+  tests : Pass (badgeCauses size layout pixels badgeSize (length badge))
+  unfolding badgeNumber
+  tests = none-applies (badgeCauses size layout pixels badgeSize (length badge)) z
+
+  pub picture-fits : PictureFits layout pixels (size .width * size .height)
+  picture-fits =
+      let n = same-of (length pixels) _ (tests .1 .1 .0) in
+      record { long = omega arith; opaque = tests .1 .1 .1 .1 .1 .0 }
+
+  badge-alike : length badge ≡ length pixels
+  badge-alike =
+      let n = same-of (length pixels) _ (tests .1 .1 .0) in
+      let m = same-of (length badge) _ (tests .1 .1 .1 .0) in
+      let o = neither-true (not (eqb (size .width) (badgeSize .width))) (not (eqb (size .height) (badgeSize .height))) (tests .1 .1 .1 .1 .0) in
+      m ∙ rw (← same-of (size .width) (badgeSize .width) (o .0), ← same-of (size .height) (badgeSize .height) (o .1)) (sym n)
+
+  -- what laying asks
+  pub lay-fits : LayAsks layout pixels badge
+  lay-fits =
+      let f = picture-fits in
+      let q : length pixels / pixelLanes ≡ size .width * size .height = omega (arith, f .long) in
+      record { long = omega (arith, f .long); alike = badge-alike; opaque = ap (hasAlpha layout pixels) q ∙ f .opaque }

@@ -2,4 +2,5 @@ pub mod Sums
 pub mod Words
 pub mod Laying
 pub mod Fitting
+pub mod Theorem
 pub mod Trials
