@@ -3,7 +3,7 @@
 -- Lanes count 0 blue, 1 green, 2 red, 3 alpha. Assumes nothing.
 use Prim.Native.Nat.{ℕ, _+_, _-_, _*_, _/_, _%_}
 use mathlib.Core.Bool.{Bool, cond, not, _||_}
-use mathlib.Core.List.{List, [], _∷_}
+use mathlib.Core.List.{List, [], _∷_, _++_}
 use lib.Dec.{eqb}
 use lib.ListN.{length}
 use Rattle.arithmetic.specs.Matte.{matteFactor, scaleColour}
@@ -40,19 +40,31 @@ unfoldable pub laid : PixelLayout → List ℕ → PixelLayout → List ℕ → 
 laid layout pixels from badge = tabulate (laidByte layout pixels from badge) (length pixels)
 
 -- ---- the number: 1 for either size, 3 for either buffer; "Unequal sizes are 15 and a background that isn't opaque is 16, in that order straight after 3"
+
+-- 1 and 3, of a background of n bytes and a badge of m
+abbrev pub bothCauses : Dimensions → ℕ → Dimensions → ℕ → List Cause
+bothCauses size n badgeSize m =
+    wrongSize size
+    ∷ wrongSize badgeSize
+    ∷ otherLength n (pictureBytes pixelLanes (size .width) (size .height)) PixelBufferMismatch
+    ∷ otherLength m (pictureBytes pixelLanes (badgeSize .width) (badgeSize .height)) PixelBufferMismatch
+    ∷ []
+
+unfoldable pub bothNumber : Dimensions → ℕ → Dimensions → ℕ → ℕ
+bothNumber size n badgeSize m = first (bothCauses size n badgeSize m)
+
 abbrev pub otherSize : Dimensions → Dimensions → Bool
 otherSize a b = not (eqb (a .width) (b .width)) || not (eqb (a .height) (b .height))
 
--- a background, and a badge of m bytes
-abbrev pub badgeCauses : Dimensions → PixelLayout → List ℕ → Dimensions → ℕ → List Cause
-badgeCauses size layout pixels badgeSize m =
-    wrongSize size
-    ∷ wrongSize badgeSize
-    ∷ otherLength (length pixels) (pictureBytes pixelLanes (size .width) (size .height)) PixelBufferMismatch
-    ∷ otherLength m (pictureBytes pixelLanes (badgeSize .width) (badgeSize .height)) PixelBufferMismatch
-    ∷ cause (otherSize size badgeSize) UnequalSizes
+-- 15 and 16
+abbrev pub layCauses : Dimensions → PixelLayout → List ℕ → Dimensions → List Cause
+layCauses size layout pixels badgeSize =
+    cause (otherSize size badgeSize) UnequalSizes
     ∷ cause (hasAlpha layout pixels (size .width * size .height)) BackgroundNotOpaque
     ∷ []
+
+abbrev pub badgeCauses : Dimensions → PixelLayout → List ℕ → Dimensions → ℕ → List Cause
+badgeCauses size layout pixels badgeSize m = bothCauses size (length pixels) badgeSize m ++ layCauses size layout pixels badgeSize
 
 unfoldable pub badgeNumber : Dimensions → PixelLayout → List ℕ → Dimensions → ℕ → ℕ
 badgeNumber size layout pixels badgeSize m = first (badgeCauses size layout pixels badgeSize m)

@@ -13,7 +13,7 @@ ghost use Prim.Native.Nat.{_+_, _*_, _/_, _^_, _≤_};
 ghost use lib.ListN.{length};
 ghost use Rattle.pixels.specs.Refusals.{checkedNumber};
 ghost use Rattle.pixels.specs.Sizes.{pixelLanes};
-ghost use Rattle.pixels_badge.specs.Badge.{blended, laid, badgeNumber, badgeOut};
+ghost use Rattle.pixels_badge.specs.Badge.{blended, laid, bothNumber, otherSize, badgeNumber, badgeOut};
 ghost use Rattle.pixels_badge.specs.Inner.{wordAt, putWord, LanesAre, Bytes, opaqueWord, laidWord, LayAsks};
 
 // ---- a pixel as a word, its first byte the lowest. Of words the compiler makes vectors, of bytes at a pixel's places it makes none.
@@ -51,7 +51,7 @@ struct Lanes {
 }
 
 // The lanes of a pixel in the order of a layout.
-fn lanes(layout: PixelLayout, w: u32) -> Lanes
+fn lanes_of(layout: PixelLayout, w: u32) -> Lanes
     ensures { λ r. ⌜ LanesAre layout w (r .b) (r .g) (r .r) (r .a) ⌝ }
 {
     let p = (w % 256) as u8;
@@ -106,8 +106,8 @@ fn blend(alpha: u8, colour: u8, under: u8) -> u32
 fn lay_pixel(layout: PixelLayout, under: u32, from: PixelLayout, over: u32) -> u32
     ensures { λ w. ⌜ w ≡ laidWord layout under from over ⌝ }
 {
-    let d = lanes(layout, under);
-    let c = lanes(from, over);
+    let d = lanes_of(layout, under);
+    let c = lanes_of(from, over);
     opaque(
         layout,
         blend(c.a, c.b, d.b),
@@ -174,7 +174,35 @@ fn lay(layout: PixelLayout, pixels: &mut [u8], from: PixelLayout, badge: &[u8])
     }
 }
 
-// The tests in the order of their numbers, each over both pictures; m is the badge's length.
+// Numbers 1 and 3 in that order, each over both pictures; n and m are the bytes of the background and of the badge.
+fn check_both(size: Dimensions, n: usize, badge_size: Dimensions, m: usize) -> Checked
+    ensures { λ r. ⌜ checkedNumber r ≡ bothNumber size n «badge_size» m ⌝ }
+{
+    if bad_size(size) {
+        return Checked::Refused(Refusal::InvalidDimensions);
+    }
+    if bad_size(badge_size) {
+        return Checked::Refused(Refusal::InvalidDimensions);
+    }
+    if wrong_length(n, size) {
+        return Checked::Refused(Refusal::PixelBufferMismatch);
+    }
+    if wrong_length(m, badge_size) {
+        return Checked::Refused(Refusal::PixelBufferMismatch);
+    }
+    Checked::Fit
+}
+
+fn other_size(a: Dimensions, b: Dimensions) -> bool
+    ensures { λ r. ⌜ r ≡ otherSize a b ⌝ }
+{
+    if a.width != b.width {
+        return true;
+    }
+    a.height != b.height
+}
+
+// Then 15 and 16.
 fn check_badge(
     size: Dimensions,
     layout: PixelLayout,
@@ -184,22 +212,14 @@ fn check_badge(
 ) -> Checked
     ensures { λ r. ⌜ checkedNumber r ≡ badgeNumber size layout (now (pixels .entry)) «badge_size» m ⌝ }
 {
-    if bad_size(size) {
-        return Checked::Refused(Refusal::InvalidDimensions);
+    let checked = check_both(size, pixels.len(), badge_size, m);
+    match checked {
+        Checked::Refused(why) => {
+            return Checked::Refused(why);
+        }
+        Checked::Fit => {}
     }
-    if bad_size(badge_size) {
-        return Checked::Refused(Refusal::InvalidDimensions);
-    }
-    if wrong_length(pixels.len(), size) {
-        return Checked::Refused(Refusal::PixelBufferMismatch);
-    }
-    if wrong_length(m, badge_size) {
-        return Checked::Refused(Refusal::PixelBufferMismatch);
-    }
-    if size.width != badge_size.width {
-        return Checked::Refused(Refusal::UnequalSizes);
-    }
-    if size.height != badge_size.height {
+    if other_size(size, badge_size) {
         return Checked::Refused(Refusal::UnequalSizes);
     }
     if has_alpha(layout, pixels) {

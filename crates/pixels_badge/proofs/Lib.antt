@@ -1,0 +1,5 @@
+pub mod Sums
+pub mod Words
+pub mod Laying
+pub mod Fitting
+pub mod Trials
