@@ -297,7 +297,8 @@ impl Image {
     ///
     /// # Errors
     ///
-    /// [`Error::UnequalSizes`], then [`Error::BackgroundNotOpaque`]; the picture stays as it was.
+    /// [`Error::UnequalSizes`], then [`Error::BackgroundNotOpaque`]; the picture stays as it was. An opaque picture can come out of [`resize`](Self::resize) with
+    /// an alpha of 254 here and there: [`apply_alpha_plane`](Self::apply_alpha_plane) with 255 for each pixel makes it opaque.
     ///
     /// ```
     /// use jonquilsaw::{Dimensions, Error, Image, PixelLayout};

@@ -83,19 +83,20 @@ fn every_pair_of_layouts() -> Result<(), Error> {
     Ok(())
 }
 
-/// In each lane; the three differ.
+/// A row for each of the badge's colours, with three of the background's in each pixel.
 #[test]
 fn every_colour_on_every_colour_under_every_alpha() -> Result<(), Error> {
-    let size = Dimensions::new(256, 256)?;
-    let each = || (0..=255_u8).flat_map(|c| (0..=255_u8).map(move |d| (c, d)));
-    let under: Vec<_> = each().flat_map(|(c, d)| [d, c, 255 - d, 255]).collect();
+    let size = Dimensions::new(86, 256)?;
+    let row: Vec<_> = (0..86_u8).flat_map(|x| [3 * x, (3 * x).saturating_add(1), (3 * x).saturating_add(2), 255]).collect();
+    let background = row.repeat(256);
     for alpha in 0..=255 {
-        let table: Vec<_> = each().map(|(c, d)| laid(alpha, c, d)).collect();
-        let of = |c: u8, d: u8| table[256 * usize::from(c) + usize::from(d)];
-        let badge: Vec<_> = each().flat_map(|(c, d)| [c, d, 255 - c, alpha]).collect();
-        let mut pixels = under.clone();
+        let badge: Vec<_> = (0..=255).flat_map(|c| [c, c, c, alpha].repeat(86)).collect();
+        let mut pixels = background.clone();
         lay_badge(size, PixelLayout::Rgba8, &mut pixels, ImageRef::new(size, PixelLayout::Rgba8, &badge)?)?;
-        assert!(pixels == each().flat_map(|(c, d)| [of(c, d), of(d, c), of(255 - c, 255 - d), 255]).collect::<Vec<_>>(), "alpha {alpha}");
+        for (c, made) in (0..=255).zip(pixels.chunks_exact(size.row_len())) {
+            let wanted = row.iter().zip(0..).map(|(&under, i)| if i % 4 == 3 { 255 } else { laid(alpha, c, under) });
+            assert!(wanted.eq(made.iter().copied()), "{c} with alpha {alpha}");
+        }
     }
     Ok(())
 }
@@ -191,5 +192,13 @@ fn pictures_that_own_their_pixels() -> Result<(), Error> {
     let mut again = kept;
     again.lay_badge(pam::read(&file)?)?;
     assert_eq!(again, laid);
+
+    // A trial of docs/SCOPE.md: white comes out with an alpha of 254, and takes a badge once it is opaque.
+    let mut white = Image::new(Dimensions::new(1, 6)?, PixelLayout::Rgba8, vec![255; 24])?.resize(Dimensions::new(1, 5)?);
+    let clear = Image::new(white.dimensions(), PixelLayout::Rgba8, vec![0; 20])?;
+    assert_eq!(white.lay_badge(&clear), Err(Error::BackgroundNotOpaque));
+    white.apply_alpha_plane(&[255; 5])?;
+    white.lay_badge(&clear)?;
+    assert_eq!(white.as_bytes(), [255; 20]);
     Ok(())
 }
