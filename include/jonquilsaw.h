@@ -28,9 +28,9 @@ extern "C" {
 #endif
 
 #define JONQUILSAW_VERSION_MAJOR 0
-#define JONQUILSAW_VERSION_MINOR 8
+#define JONQUILSAW_VERSION_MINOR 9
 #define JONQUILSAW_VERSION_PATCH 0
-#define JONQUILSAW_VERSION "0.8.0"
+#define JONQUILSAW_VERSION "0.9.0"
 
 /* The largest side of a picture or a plane. */
 #define JONQUILSAW_MAX_SIDE 16384u
