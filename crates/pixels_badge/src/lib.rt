@@ -133,39 +133,40 @@ fn lay_pixels(layout: PixelLayout, pixels: &mut [u8], from: PixelLayout, badge: 
 }
 
 // The loop for each pair of layouts: named here, before the loop, the compiler makes a loop of each with the lanes' places written into it.
+// Argb8 stands first: the compiler takes the calls from the last to the first, and inlines the only one left whatever it costs. That pair costs most.
 fn lay(layout: PixelLayout, pixels: &mut [u8], from: PixelLayout, badge: &[u8])
     requires { ⌜ LayAsks layout (now pixels) (now badge) ⌝ }
     ensures { λ _. ⌜ now (pixels .exit) ≡ laid layout (now (pixels .entry)) from (now (badge .entry)) ⌝ }
 {
     match layout {
-        PixelLayout::Rgba8 => match from {
-            PixelLayout::Rgba8 => {
-                lay_pixels(PixelLayout::Rgba8, pixels, PixelLayout::Rgba8, badge)
-            }
-            PixelLayout::Argb8 => {
-                lay_pixels(PixelLayout::Rgba8, pixels, PixelLayout::Argb8, badge)
-            }
-            PixelLayout::Bgra8 => {
-                lay_pixels(PixelLayout::Rgba8, pixels, PixelLayout::Bgra8, badge)
-            }
-        },
         PixelLayout::Argb8 => match from {
-            PixelLayout::Rgba8 => {
-                lay_pixels(PixelLayout::Argb8, pixels, PixelLayout::Rgba8, badge)
-            }
             PixelLayout::Argb8 => {
                 lay_pixels(PixelLayout::Argb8, pixels, PixelLayout::Argb8, badge)
+            }
+            PixelLayout::Rgba8 => {
+                lay_pixels(PixelLayout::Argb8, pixels, PixelLayout::Rgba8, badge)
             }
             PixelLayout::Bgra8 => {
                 lay_pixels(PixelLayout::Argb8, pixels, PixelLayout::Bgra8, badge)
             }
         },
-        PixelLayout::Bgra8 => match from {
-            PixelLayout::Rgba8 => {
-                lay_pixels(PixelLayout::Bgra8, pixels, PixelLayout::Rgba8, badge)
+        PixelLayout::Rgba8 => match from {
+            PixelLayout::Argb8 => {
+                lay_pixels(PixelLayout::Rgba8, pixels, PixelLayout::Argb8, badge)
             }
+            PixelLayout::Rgba8 => {
+                lay_pixels(PixelLayout::Rgba8, pixels, PixelLayout::Rgba8, badge)
+            }
+            PixelLayout::Bgra8 => {
+                lay_pixels(PixelLayout::Rgba8, pixels, PixelLayout::Bgra8, badge)
+            }
+        },
+        PixelLayout::Bgra8 => match from {
             PixelLayout::Argb8 => {
                 lay_pixels(PixelLayout::Bgra8, pixels, PixelLayout::Argb8, badge)
+            }
+            PixelLayout::Rgba8 => {
+                lay_pixels(PixelLayout::Bgra8, pixels, PixelLayout::Rgba8, badge)
             }
             PixelLayout::Bgra8 => {
                 lay_pixels(PixelLayout::Bgra8, pixels, PixelLayout::Bgra8, badge)
