@@ -363,7 +363,7 @@ fn take_rows(first: GroupRun, k: u32, to: Out, out: &mut [u8], work: &mut [u32])
     run
 }
 
-// The n bytes of a row, where the buffer has them; else none, which every call refuses.
+// The n bytes of a row or of a picture, where the buffer has them; else none, which every call refuses.
 pub(crate) fn part_of(n: usize, buffer: &[u8]) -> usize
     ensures { λ r. ⌜ Counts r (now (buffer .entry)) ⌝ }
 {

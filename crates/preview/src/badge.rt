@@ -34,26 +34,36 @@ use pixels_layout::PixelLayout;
 ghost use Prim.Native.Nat.{_≤_};
 
 // The most pixels of a preview that is held, and its bytes.
-const MOST: u64 = 524288;
+const MOST: usize = 524288;
 
-const HELD: usize = 2097152;
+const HELD: usize = PIXEL_LANES * MOST;
 
 // ---- the badge
 
-// Opens the file that argument `word` names. Where that fails, which is said, the descriptor is below 0. A folder is opened and not read, which a read of no
-// byte tells.
-fn open_badge(word: usize) -> i32 {
-    let mut text = io::buffer();
+// Opens a file to read it; below 0 where that fails. A folder is opened and cannot be read, which a read of no byte tells.
+fn open_file(file: &[u8]) -> i32 {
     let mut none = [0u8; 0];
-    let n = os::arg(word, &mut text);
-    let fd = os::open_read(&text[..n]);
+    let fd = os::open_read(file);
     if fd < 0 {
-        say_failed(&text[..n]);
         return fd;
     }
     if libc::read(fd, &mut none) < 0 {
-        say_failed(&text[..n]);
         return -1;
+    }
+    fd
+}
+
+// Opens the file that argument `word` names. Where that fails, which is said, the descriptor is below 0.
+fn open_badge(word: usize) -> i32 {
+    let mut text = io::buffer();
+    let n = os::arg(word, &mut text);
+    if os::errno() != 0 {
+        say_failed(b"the badge's file");
+        return -1;
+    }
+    let fd = open_file(&text[..n]);
+    if fd < 0 {
+        say_failed(&text[..n]);
     }
     fd
 }
@@ -146,7 +156,7 @@ fn hold_job(job: Job, row: &mut [u8], pixels: &mut [u8], work: &mut [u32]) -> bo
     run_rows(job, true, &mut row[..n], pixels, work)
 }
 
-// Makes the preview, held by one row of the widest picture and the work values of the widest preview; false where something stopped it.
+// Makes the preview, with one row of the widest picture and the work values of the widest preview; false where something stopped it.
 fn make(plan: Plan, pixels: &mut [u8]) -> bool {
     let mut row = [0u8; 65536];
     let mut work = [0u32; 131072];
@@ -197,6 +207,15 @@ fn finish(form: Form, size: Dimensions, pixels: &mut [u8], badge: &[u8]) {
     }
 }
 
+// The bytes of a picture that is held; 0 where it is too large.
+fn picture_bytes(size: Dimensions) -> usize {
+    let count = size.pixel_count();
+    if (MOST as u64) < count {
+        return 0;
+    }
+    PIXEL_LANES * count as usize
+}
+
 // Reads the badge, makes the preview, and goes on where the input has ended with it.
 fn lay(form: Form, plan: Plan, word: usize, pixels: &mut [u8], badge: &mut [u8]) {
     if !read_badge(word, plan.target, badge) {
@@ -205,15 +224,6 @@ fn lay(form: Form, plan: Plan, word: usize, pixels: &mut [u8], badge: &mut [u8])
     if close(make(plan, pixels)) {
         finish(form, plan.target, pixels, badge);
     }
-}
-
-// The bytes of a picture that is held.
-fn picture_bytes(size: Dimensions) -> usize {
-    let count = size.pixel_count();
-    if MOST < count {
-        return 0;
-    }
-    PIXEL_LANES * count as usize
 }
 
 // The same, in the parts of the buffers that the pictures take.
@@ -231,7 +241,7 @@ fn hold(form: Form, plan: Plan, word: usize) {
 
 fn say_too_large() {
     say(b"preview: with --badge a preview has at most ");
-    io::print_decimal(STDERR_FILENO, MOST);
+    io::print_decimal(STDERR_FILENO, MOST as u64);
     say(b" pixels\n");
 }
 
@@ -241,7 +251,7 @@ pub(crate) fn badged(form: Form, source: Dimensions, crop: Rect, sides: Dimensio
     match sized {
         Sized::Refused(why) => say_refusal(why),
         Sized::Size(target) => {
-            if MOST < target.pixel_count() {
+            if picture_bytes(target) == 0 {
                 say_too_large();
                 return;
             }

@@ -39,17 +39,17 @@ fn descriptor(from: Source) -> i32 {
 
 // ---- what is said
 
+// Whether the first line is P7, or, cut off, a beginning of that.
+fn opens(text: &[u8]) -> bool {
+    same(head_of(text, 3), head_of(b"P7\n", text.len()))
+}
+
 // The line for what is read.
 fn say_of(from: Source, input: &[u8], badge: &[u8]) {
     match from {
         Source::Input => say(input),
         Source::Badge(_) => say(badge),
     }
-}
-
-// Whether the first line is P7, or, cut off, a beginning of that.
-fn opens(text: &[u8]) -> bool {
-    same(head_of(text, 3), head_of(b"P7\n", text.len()))
 }
 
 // The same, where the first line is P7.
