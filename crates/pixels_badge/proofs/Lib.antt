@@ -1,6 +1,9 @@
 pub mod Sums
 pub mod Words
+pub mod Turning
+pub mod Blocks
 pub mod Laying
+pub mod LaidBlocks
 pub mod Fitting
 pub mod Theorem
 pub mod Trials

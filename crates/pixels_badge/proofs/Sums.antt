@@ -38,6 +38,15 @@ pub blended-opaque : (c d : ℕ) → c ≤ 255 → d ≤ 255 → blended 255 c d
 unfolding blended
 blended-opaque c d hc hd = omega (arith, matted-all c hc, matted-none d hd)
 
+-- two alphas of 255, by alphas that sum to 255
+matted-whole : (a : ℕ) → a ≤ 255 → matted 255 a ≡ a
+unfolding matted scaleColour matteFactor
+matted-whole a h = omega arith
+
+pub blended-whole : (a : ℕ) → a ≤ 255 → blended a 255 255 ≡ 255
+unfolding blended
+blended-whole a h = omega (arith, matted-whole a h, matted-whole (255 - a) (omega arith))
+
 -- ---- the three cases
 module _ (k a c d : ℕ) where
   pub laid-clear : a ≡ 0 → laidOf k a c d ≡ d

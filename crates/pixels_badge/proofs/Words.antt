@@ -1,23 +1,15 @@
--- A pixel as a word: its bytes as the code takes and stores them, its lanes in a layout, and the word of a badge's pixel over a background's. Assumes nothing.
+-- A pixel as a word: its bytes as the code takes and stores them, and its lanes in a layout. Assumes nothing.
 use Prim.Native.Nat.{ℕ, _+_, _*_, _/_, _%_, _^_, _≤_, _<_}
-use mathlib.Core.Path.{_≡_, refl, sym, ap, _∙_}
-use mathlib.Core.Bool.{Bool, true, false, cond}
-use mathlib.Core.List.{List, [], _∷_}
+use mathlib.Core.Path.{_≡_, refl, sym}
+use mathlib.Core.List.{List}
 use native.Mathlib.Omega.{arith}
 use native.Mathlib.Nat.{add-zero}
-use lib.Dec.{eqb}
 use lib.ListN.{getD, set}
-use borrow.Author.Tests.{eq-eqb, ne-eqb}
 use Rattle.arithmetic.specs.Matte.{laneOf, pixelOf}
-use Rattle.arithmetic.proofs.Mattes.{lane-byte, lane-high, pixel-lane, pixel-cong}
+use Rattle.arithmetic.proofs.Mattes.{lane-high, pixel-lane}
 use Rattle.pixels.specs.Sizes.{pixelLanes}
-use Rattle.pixels_layout.specs.declared.PixelLayout.{PixelLayout}
 use Rattle.pixels_layout.specs.declared.PixelLayout.the-variants.{Rgba8, Argb8, Bgra8}
-use Rattle.pixels_layout.specs.Layout.{alphaLane, placeOf}
-use Rattle.pixels_layout.proofs.Tabled.{each-lane, place-lt}
-use Rattle.pixels_badge.specs.Badge.{blended}
-use Rattle.pixels_badge.specs.Inner.{wordAt, putWord, LanesAre, Bytes, opaqueWord, laidIn, laidWord}
-use Rattle.pixels_badge.proofs.Sums.{blended-most}
+use Rattle.pixels_badge.specs.Inner.{wordAt, putWord, LanesAre, opaqueWord}
 
 -- ---- bytes of a word, as the code takes them
 byte-0 : (w : ℕ) → w % 256 ≡ laneOf w 0
@@ -68,51 +60,3 @@ opaque-argb b g r = omega arith
 pub opaque-bgra : (b g r : ℕ) → b + 256 * g + 65536 * r + 4278190080 ≡ opaqueWord Bgra8 b g r
 unfolding opaqueWord pixelOf
 opaque-bgra b g r = omega arith
-
--- ---- a pixel over a pixel
-module _ (layout : PixelLayout) (under : ℕ) (from : PixelLayout) (over : ℕ) where
-  abbrev colour : ℕ → ℕ
-  colour k = blended (laneOf over (placeOf from alphaLane)) (laneOf over (placeOf from k)) (laneOf under (placeOf layout k))
-
-  pub in-colour : (k : ℕ) → (k ≡ alphaLane → ⊥) → laidIn layout under from over k ≡ colour k
-  unfolding laidIn
-  in-colour k other = simp (ne-eqb k alphaLane other)
-
-  pub in-alpha : laidIn layout under from over alphaLane ≡ 255
-  unfolding laidIn
-  in-alpha = refl
-
-  pub in-byte : (k : ℕ) → k < pixelLanes → laidIn layout under from over k ≤ 255
-  unfolding laidIn
-  in-byte k h = by (eqb k alphaLane)
-    where
-      by : (t : Bool) → cond t 255 (colour k) ≤ 255
-      by true = omega arith
-      by false = blended-most _ _ _ (lane-byte over (placeOf from alphaLane)) (lane-byte over (placeOf from k)) (lane-byte under (placeOf layout k))
-
-  module _ {db dg dr da cb cg cr ca : ℕ} (d : LanesAre layout under db dg dr da) (c : LanesAre from over cb cg cr ca) where
-    pub word-laid : {b g r w : ℕ} → b ≡ blended ca cb db → g ≡ blended ca cg dg → r ≡ blended ca cr dr → w ≡ opaqueWord layout b g r → w ≡ laidWord layout under from over
-    unfolding opaqueWord laidWord
-    word-laid {b} {g} {r} eb eg er e =
-        e ∙ pixel-cong _ _ (λ j h. each (placeOf layout j) (place-lt layout j h))
-      where
-        blue : b ≡ colour 0
-        blue = eb ∙ rw (c .alpha, c .blue, d .blue) refl
-
-        green : g ≡ colour 1
-        green = eg ∙ rw (c .alpha, c .green, d .green) refl
-
-        red : r ≡ colour 2
-        red = er ∙ rw (c .alpha, c .red, d .red) refl
-
-        each : (k : ℕ) → k < pixelLanes → getD (b ∷ g ∷ r ∷ 255 ∷ []) k 0 ≡ laidIn layout under from over k
-        each = each-lane (λ k. getD (b ∷ g ∷ r ∷ 255 ∷ []) k 0 ≡ laidIn layout under from over k)
-            (blue ∙ sym (in-colour 0 (λ z. omega arith)))
-            (green ∙ sym (in-colour 1 (λ z. omega arith)))
-            (red ∙ sym (in-colour 2 (λ z. omega arith)))
-            (sym in-alpha)
-
-  -- byte j of it
-  pub laid-byte-of : (j : ℕ) → j < pixelLanes → laneOf (laidWord layout under from over) j ≡ laidIn layout under from over (placeOf layout j)
-  unfolding laidWord
-  laid-byte-of j h = pixel-lane (λ i. laidIn layout under from over (placeOf layout i)) (λ i l. in-byte (placeOf layout i) (place-lt layout i l)) j h

@@ -9,12 +9,12 @@ use pixels_alpha::has_alpha;
 use pixels_layout::PixelLayout;
 use pixels_sizes::wrong_length;
 ghost use mathlib.Core.Path.{_≡_};
-ghost use Prim.Native.Nat.{_+_, _*_, _/_, _^_, _≤_};
+ghost use Prim.Native.Nat.{_+_, _*_, _/_, _^_, _≤_, min};
 ghost use lib.ListN.{length};
 ghost use Rattle.pixels.specs.Refusals.{checkedNumber};
 ghost use Rattle.pixels.specs.Sizes.{pixelLanes};
 ghost use Rattle.pixels_badge.specs.Badge.{blended, laid, bothNumber, otherSize, badgeNumber, badgeOut};
-ghost use Rattle.pixels_badge.specs.Inner.{wordAt, putWord, LanesAre, Bytes, opaqueWord, laidWord, LayAsks};
+ghost use Rattle.pixels_badge.specs.Inner.{wordAt, putWord, LanesAre, opaqueWord, filledBy, alphaIn, colourIn, TurnAsks, pairAt, putPair, blendedPair, blendedBlock, BlockAsks, blockBytes, LayAsks};
 
 // ---- a pixel as a word, its first byte the lowest. Of words the compiler makes vectors, of bytes at a pixel's places it makes none.
 
@@ -81,18 +81,17 @@ fn lanes_of(layout: PixelLayout, w: u32) -> Lanes
 }
 
 // The opaque pixel of three colours.
-fn opaque(layout: PixelLayout, b: u32, g: u32, r: u32) -> u32
-    requires { ⌜ Bytes b g r ⌝ }
+fn opaque(layout: PixelLayout, b: u8, g: u8, r: u8) -> u32
     ensures { λ w. ⌜ w ≡ opaqueWord layout b g r ⌝ }
 {
     match layout {
-        PixelLayout::Rgba8 => r + 256 * g + 65536 * b + 4278190080,
-        PixelLayout::Argb8 => 255 + 256 * r + 65536 * g + 16777216 * b,
-        PixelLayout::Bgra8 => b + 256 * g + 65536 * r + 4278190080,
+        PixelLayout::Rgba8 => r as u32 + 256 * g as u32 + 65536 * b as u32 + 4278190080,
+        PixelLayout::Argb8 => 255 + 256 * r as u32 + 65536 * g as u32 + 16777216 * b as u32,
+        PixelLayout::Bgra8 => b as u32 + 256 * g as u32 + 65536 * r as u32 + 4278190080,
     }
 }
 
-// ---- the badge laid on the background
+// ---- one colour
 
 // One colour over another, for every alpha and with no case: at 0 it is the background's, at 255 the badge's. At most 255, and nothing is cut.
 fn blend(alpha: u8, colour: u8, under: u8) -> u32
@@ -102,76 +101,182 @@ fn blend(alpha: u8, colour: u8, under: u8) -> u32
     matte(colour, alpha) + matte(under, 255 - alpha)
 }
 
-// One pixel over another.
-fn lay_pixel(layout: PixelLayout, under: u32, from: PixelLayout, over: u32) -> u32
-    ensures { λ w. ⌜ w ≡ laidWord layout under from over ⌝ }
-{
-    let d = lanes_of(layout, under);
-    let c = lanes_of(from, over);
-    opaque(
-        layout,
-        blend(c.a, c.b, d.b),
-        blend(c.a, c.g, d.g),
-        blend(c.a, c.r, d.r),
-    )
-}
+// ---- a block of the badge: its colours in the background's order, an alpha of 255 among them, and beside these its own alphas, at every second place
 
-// Every pixel, a turn each.
-fn lay_pixels(layout: PixelLayout, pixels: &mut [u8], from: PixelLayout, badge: &[u8])
-    requires { ⌜ LayAsks layout (now pixels) (now badge) ⌝ }
-    ensures { λ _. ⌜ now (pixels .exit) ≡ laid layout (now (pixels .entry)) from (now (badge .entry)) ⌝ }
+fn turn(layout: PixelLayout, from: PixelLayout, badge: &[u8], alphas: &mut [u8], colours: &mut [u8])
+    requires { ⌜ TurnAsks (now badge) (now alphas) (now colours) ⌝ }
+    ensures alphas { λ _. ⌜ now (alphas .exit) ≡ filledBy (alphaIn from (now (badge .entry))) (length (now (badge .entry))) (now (alphas .entry)) ⌝ }
+    ensures colours { λ _. ⌜ now (colours .exit) ≡ filledBy (colourIn layout from (now (badge .entry))) (length (now (badge .entry))) (now (colours .entry)) ⌝ }
 {
     let mut at = 0usize;
-    while at < pixels.len() {
-        put_word(
-            pixels,
-            at,
-            lay_pixel(layout, word(pixels, at), from, word(badge, at)),
-        );
+    while at < badge.len() {
+        let l = lanes_of(from, word(badge, at));
+        put_word(alphas, at, 65537 * l.a as u32);
+        put_word(colours, at, opaque(layout, l.b, l.g, l.r));
         at += PIXEL_LANES;
     }
 }
 
 // The loop for each pair of layouts: named here, before the loop, the compiler makes a loop of each with the lanes' places written into it.
-// Argb8 stands first: the compiler takes the calls from the last to the first, and inlines the only one left whatever it costs. That pair costs most.
+fn turn_by(
+    layout: PixelLayout,
+    from: PixelLayout,
+    badge: &[u8],
+    alphas: &mut [u8],
+    colours: &mut [u8],
+)
+    requires { ⌜ TurnAsks (now badge) (now alphas) (now colours) ⌝ }
+    ensures alphas { λ _. ⌜ now (alphas .exit) ≡ filledBy (alphaIn from (now (badge .entry))) (length (now (badge .entry))) (now (alphas .entry)) ⌝ }
+    ensures colours { λ _. ⌜ now (colours .exit) ≡ filledBy (colourIn layout from (now (badge .entry))) (length (now (badge .entry))) (now (colours .entry)) ⌝ }
+{
+    match layout {
+        PixelLayout::Rgba8 => match from {
+            PixelLayout::Rgba8 => turn(
+                PixelLayout::Rgba8,
+                PixelLayout::Rgba8,
+                badge,
+                alphas,
+                colours,
+            ),
+            PixelLayout::Argb8 => turn(
+                PixelLayout::Rgba8,
+                PixelLayout::Argb8,
+                badge,
+                alphas,
+                colours,
+            ),
+            PixelLayout::Bgra8 => turn(
+                PixelLayout::Rgba8,
+                PixelLayout::Bgra8,
+                badge,
+                alphas,
+                colours,
+            ),
+        },
+        PixelLayout::Argb8 => match from {
+            PixelLayout::Rgba8 => turn(
+                PixelLayout::Argb8,
+                PixelLayout::Rgba8,
+                badge,
+                alphas,
+                colours,
+            ),
+            PixelLayout::Argb8 => turn(
+                PixelLayout::Argb8,
+                PixelLayout::Argb8,
+                badge,
+                alphas,
+                colours,
+            ),
+            PixelLayout::Bgra8 => turn(
+                PixelLayout::Argb8,
+                PixelLayout::Bgra8,
+                badge,
+                alphas,
+                colours,
+            ),
+        },
+        PixelLayout::Bgra8 => match from {
+            PixelLayout::Rgba8 => turn(
+                PixelLayout::Bgra8,
+                PixelLayout::Rgba8,
+                badge,
+                alphas,
+                colours,
+            ),
+            PixelLayout::Argb8 => turn(
+                PixelLayout::Bgra8,
+                PixelLayout::Argb8,
+                badge,
+                alphas,
+                colours,
+            ),
+            PixelLayout::Bgra8 => turn(
+                PixelLayout::Bgra8,
+                PixelLayout::Bgra8,
+                badge,
+                alphas,
+                colours,
+            ),
+        },
+    }
+}
+
+// ---- the background, two bytes a turn, all lanes alike: of two alphas of 255, matted by alphas that sum to 255, comes 255
+
+fn two(p: u8, q: u8) -> u16
+    ensures { λ r. ⌜ r ≡ p + 256 * q ⌝ }
+{
+    p as u16 + 256 * q as u16
+}
+
+// The two bytes from `at` on as a number.
+fn pair(bytes: &[u8], at: usize) -> u16
+    requires { ⌜ at + 2 ≤ length (now bytes) ⌝ }
+    ensures { λ r. ⌜ r ≡ pairAt (now (bytes .entry)) at ⌝ }
+{
+    two(bytes[at], bytes[at + 1])
+}
+
+// Stores the two bytes of a number from `at` on.
+fn put_pair(bytes: &mut [u8], at: usize, v: u16)
+    requires { ⌜ at + 2 ≤ length (now bytes) ⌝ }
+    ensures { λ _. ⌜ now (bytes .exit) ≡ putPair (now (bytes .entry)) at v ⌝ }
+{
+    bytes[at] = (v % 256) as u8;
+    bytes[at + 1] = (v / 256) as u8;
+}
+
+// Two bytes of a badge over two of a background, by the alpha in the low byte of `alpha`.
+fn blend_pair(alpha: u16, over: u16, under: u16) -> u16
+    ensures { λ r. ⌜ r ≡ blendedPair alpha over under ⌝ }
+{
+    let a = (alpha % 256) as u8;
+    let low = blend(a, (over % 256) as u8, (under % 256) as u8);
+    let high = blend(a, (over / 256) as u8, (under / 256) as u8);
+    (low + 256 * high) as u16
+}
+
+fn blend_block(pixels: &mut [u8], alphas: &[u8], colours: &[u8])
+    requires { ⌜ BlockAsks (now pixels) (now alphas) (now colours) ⌝ }
+    ensures { λ _. ⌜ now (pixels .exit) ≡ blendedBlock (now (pixels .entry)) (now (alphas .entry)) (now (colours .entry)) ⌝ }
+{
+    let mut x = 0usize;
+    while x < pixels.len() {
+        put_pair(
+            pixels,
+            x,
+            blend_pair(pair(alphas, x), pair(colours, x), pair(pixels, x)),
+        );
+        x += 2;
+    }
+}
+
+// Where the block from `at` on ends, of n bytes.
+fn block_end(n: usize, at: usize) -> usize
+    requires { ⌜ at ≤ n ⌝ }
+    ensures { λ r. ⌜ r ≡ min n (at + blockBytes) ⌝ }
+{
+    if n - at < 256 {
+        return n;
+    }
+    at + 256
+}
+
+// The badge laid on the background, block by block.
 fn lay(layout: PixelLayout, pixels: &mut [u8], from: PixelLayout, badge: &[u8])
     requires { ⌜ LayAsks layout (now pixels) (now badge) ⌝ }
     ensures { λ _. ⌜ now (pixels .exit) ≡ laid layout (now (pixels .entry)) from (now (badge .entry)) ⌝ }
 {
-    match layout {
-        PixelLayout::Argb8 => match from {
-            PixelLayout::Argb8 => {
-                lay_pixels(PixelLayout::Argb8, pixels, PixelLayout::Argb8, badge)
-            }
-            PixelLayout::Rgba8 => {
-                lay_pixels(PixelLayout::Argb8, pixels, PixelLayout::Rgba8, badge)
-            }
-            PixelLayout::Bgra8 => {
-                lay_pixels(PixelLayout::Argb8, pixels, PixelLayout::Bgra8, badge)
-            }
-        },
-        PixelLayout::Rgba8 => match from {
-            PixelLayout::Argb8 => {
-                lay_pixels(PixelLayout::Rgba8, pixels, PixelLayout::Argb8, badge)
-            }
-            PixelLayout::Rgba8 => {
-                lay_pixels(PixelLayout::Rgba8, pixels, PixelLayout::Rgba8, badge)
-            }
-            PixelLayout::Bgra8 => {
-                lay_pixels(PixelLayout::Rgba8, pixels, PixelLayout::Bgra8, badge)
-            }
-        },
-        PixelLayout::Bgra8 => match from {
-            PixelLayout::Argb8 => {
-                lay_pixels(PixelLayout::Bgra8, pixels, PixelLayout::Argb8, badge)
-            }
-            PixelLayout::Rgba8 => {
-                lay_pixels(PixelLayout::Bgra8, pixels, PixelLayout::Rgba8, badge)
-            }
-            PixelLayout::Bgra8 => {
-                lay_pixels(PixelLayout::Bgra8, pixels, PixelLayout::Bgra8, badge)
-            }
-        },
+    let n = pixels.len();
+    let mut alphas = [0u8; 256];
+    let mut colours = [0u8; 256];
+    let mut at = 0usize;
+    while at < n {
+        let end = block_end(n, at);
+        turn_by(layout, from, &badge[at..end], &mut alphas, &mut colours);
+        blend_block(&mut pixels[at..end], &alphas, &colours);
+        at = end;
     }
 }
 

@@ -1,183 +1,163 @@
--- Each arm is the loop of its two layouts. Assumes nothing.
-use borrow.Author.Needs.{needs}
+-- Each turn lays the next block. Assumes nothing.
+use Prim.Native.Nat.{ℕ, _-_, _≤_}
+use mathlib.Core.Path.{refl, sym}
+use native.Mathlib.Omega.{arith}
+use native.Mathlib.Nat.{le-of-suc-le-suc}
+use lib.ListN.{getD}
+use Rattle.arithmetic.proofs.Stores.{same}
+use Rattle.pixels_badge.proofs.LaidBlocks.{Covering, covering-first, end-after, end-more, end-inside, end-badge, turn-asks, alphas-kept, colours-kept, block-asks, covering-turn, covering-done}
 use Rattle.pixels_badge.proofs.lay.Statement.{statement}
 use Rattle.pixels_badge.proofs.lay.Tie as tie
 
-enum-told : tie.Need-enum-told
-enum-told c = search needs
+abbrev Inv-loop : tie.InvT-loop
+Inv-loop layout pixels₀ from badge n alphas₀ colours₀ at₀ pixels alphas colours at = Covering layout pixels₀ from badge pixels alphas colours at
 
-enum-told-2 : tie.Need-enum-told-2
-enum-told-2 c = search needs
+abbrev μ-loop : tie.MeasureT-loop
+μ-loop layout pixels₀ from badge n alphas₀ colours₀ at₀ pixels alphas colours at = n - at
 
-lay-pixels-requires : tie.Need-lay-pixels-requires
-lay-pixels-requires c κs = let b = c .before .before .before in rw (b .enum-told .given .1) at (b .before .before .before .before .pre)
+loop-holds : tie.Need-loop-holds Inv-loop μ-loop
+loop-holds c = let a = c .before .before .args in covering-first (a .layout) (a .pixels .now) (a .from) (a .badge .now) refl refl
 
-enum-told-3 : tie.Need-enum-told-3
-enum-told-3 c = search needs
+block-end-requires : tie.Need-block-end-requires Inv-loop μ-loop
+block-end-requires c κs = omega (arith, c .loop-test .taken)
 
-lay-pixels-requires-2 : tie.Need-lay-pixels-requires-2
-lay-pixels-requires-2 c κs = let b = c .before .before .before in rw (b .enum-told .given .1) at (b .before .before .before .before .pre)
+sub-turn-by : tie.Need-sub-turn-by Inv-loop μ-loop
+sub-turn-by c =
+    let b = c in
+    let t = b .before in
+    let l = t .before .loop in
+    let q = t .before .before .before .before .pre in
+    end-after (l .inv) q (t .loop-test .taken) (b .block-end .ensures)
 
-enum-told-4 : tie.Need-enum-told-4
-enum-told-4 c = search needs
+part-turn-by-start : tie.Need-part-turn-by-start Inv-loop μ-loop
+part-turn-by-start c =
+    let b = c in
+    let t = b .before in
+    let l = t .before .loop in
+    let q = t .before .before .before .before .pre in
+    end-after (l .inv) q (t .loop-test .taken) (b .block-end .ensures)
 
-lay-pixels-requires-3 : tie.Need-lay-pixels-requires-3
-lay-pixels-requires-3 c κs = let b = c .before .before .before in rw (b .enum-told .given .1) at (b .before .before .before .before .pre)
+part-turn-by-end : tie.Need-part-turn-by-end Inv-loop μ-loop
+part-turn-by-end c =
+    let b = c in
+    let t = b .before in
+    let l = t .before .loop in
+    let q = t .before .before .before .before .pre in
+    end-badge (l .inv) q (t .loop-test .taken) (b .block-end .ensures)
 
-enum-told-5 : tie.Need-enum-told-5
-enum-told-5 c = search needs
+slice-aggregate-turn-by : tie.Need-slice-aggregate-turn-by Inv-loop μ-loop
+slice-aggregate-turn-by c = sym (c .before .before .before .before .loop .inv .alphas-long)
 
-enum-told-6 : tie.Need-enum-told-6
-enum-told-6 c = search needs
+slice-aggregate-turn-by-2 : tie.Need-slice-aggregate-turn-by-2 Inv-loop μ-loop
+slice-aggregate-turn-by-2 c = sym (c .before .before .before .before .before .loop .inv .colours-long)
 
-lay-pixels-requires-4 : tie.Need-lay-pixels-requires-4
-lay-pixels-requires-4 c κs = let b = c .before .before .before in rw (b .enum-told5 .given .1) at (b .before .before .before .before .pre)
+turn-by-requires : tie.Need-turn-by-requires Inv-loop μ-loop
+turn-by-requires c κs =
+    let b = c .before .before .before in
+    let t = b .before in
+    let l = t .before .loop in
+    let q = t .before .before .before .before .pre in
+    turn-asks (l .inv) q (t .loop-test .taken) (b .block-end .ensures)
 
-enum-told-7 : tie.Need-enum-told-7
-enum-told-7 c = search needs
+sub-blend-block : tie.Need-sub-blend-block Inv-loop μ-loop
+sub-blend-block c =
+    let b = c .before .before .before .before .before .before in
+    let t = b .before in
+    let l = t .before .loop in
+    let q = t .before .before .before .before .pre in
+    end-after (l .inv) q (t .loop-test .taken) (b .block-end .ensures)
 
-lay-pixels-requires-5 : tie.Need-lay-pixels-requires-5
-lay-pixels-requires-5 c κs = let b = c .before .before .before in rw (b .enum-told5 .given .1) at (b .before .before .before .before .pre)
+part-blend-block-start : tie.Need-part-blend-block-start Inv-loop μ-loop
+part-blend-block-start c =
+    let b = c .before .before .before .before .before .before in
+    let t = b .before in
+    let l = t .before .loop in
+    let q = t .before .before .before .before .pre in
+    end-after (l .inv) q (t .loop-test .taken) (b .block-end .ensures)
 
-enum-told-8 : tie.Need-enum-told-8
-enum-told-8 c = search needs
+part-blend-block-end : tie.Need-part-blend-block-end Inv-loop μ-loop
+part-blend-block-end c =
+    let b = c .before .before .before .before .before .before in
+    let t = b .before in
+    let l = t .before .loop in
+    let q = t .before .before .before .before .pre in
+    end-inside (l .inv) q (t .loop-test .taken) (b .block-end .ensures)
 
-lay-pixels-requires-6 : tie.Need-lay-pixels-requires-6
-lay-pixels-requires-6 c κs = let b = c .before .before .before in rw (b .enum-told5 .given .1) at (b .before .before .before .before .pre)
+slice-aggregate-blend-block : tie.Need-slice-aggregate-blend-block Inv-loop μ-loop
+slice-aggregate-blend-block c =
+    let b = c .before .before .before .before .before .before .before .before in
+    let t = b .before in
+    let l = t .before .loop in
+    let q = t .before .before .before .before .pre in
+    let u = c .before .before .before .before .turn-by .ensures in
+    sym (alphas-kept (l .inv) q (t .loop-test .taken) (b .block-end .ensures) (u .0) (u .1))
 
-enum-told-9 : tie.Need-enum-told-9
-enum-told-9 c = search needs
+slice-aggregate-blend-block-2 : tie.Need-slice-aggregate-blend-block-2 Inv-loop μ-loop
+slice-aggregate-blend-block-2 c =
+    let b = c .before .before .before .before .before .before .before .before .before in
+    let t = b .before in
+    let l = t .before .loop in
+    let q = t .before .before .before .before .pre in
+    let u = c .before .before .before .before .before .turn-by .ensures in
+    sym (colours-kept (l .inv) q (t .loop-test .taken) (b .block-end .ensures) (u .0) (u .1))
 
-enum-told-10 : tie.Need-enum-told-10
-enum-told-10 c = search needs
+blend-block-requires : tie.Need-blend-block-requires Inv-loop μ-loop
+blend-block-requires c κs =
+    let b = c .before .before .before .before .before .before .before .before .before in
+    let t = b .before in
+    let l = t .before .loop in
+    let q = t .before .before .before .before .pre in
+    let u = c .before .before .before .before .before .turn-by .ensures in
+    block-asks (l .inv) q (t .loop-test .taken) (b .block-end .ensures) (u .0) (u .1)
 
-lay-pixels-requires-7 : tie.Need-lay-pixels-requires-7
-lay-pixels-requires-7 c κs = let b = c .before .before .before in rw (b .enum-told9 .given .1) at (b .before .before .before .before .pre)
+loop-less : tie.Need-loop-less Inv-loop μ-loop
+loop-less c =
+    let b = c .before .before .before .before .before .before .before .before .before .before .before .before in
+    let t = b .before in
+    let l = t .before .loop in
+    let q = t .before .before .before .before .pre in
+    omega (arith, end-more (l .inv) q (t .loop-test .taken) (b .block-end .ensures), end-inside (l .inv) q (t .loop-test .taken) (b .block-end .ensures), same (l .inv .bytes))
 
-enum-told-11 : tie.Need-enum-told-11
-enum-told-11 c = search needs
+loop-again : tie.Need-loop-again Inv-loop μ-loop
+loop-again c =
+    let b = c .before .before .before .before .before .before .before .before .before .before .before .before in
+    let t = b .before in
+    let l = t .before .loop in
+    let q = t .before .before .before .before .pre in
+    let u = c .before .before .before .before .before .before .before .before .turn-by .ensures in
+    let known = t .before .before in
+    let a = known .before .before .args in
+    let whole : (y : ℕ) → getD (a .pixels .now) y 0 ≤ 255 = λ y. le-of-suc-le-suc (known .before .slice-known .given y .fits) in
+    let bytes : (y : ℕ) → getD (a .badge .now) y 0 ≤ 255 = λ y. le-of-suc-le-suc (known .shared-slice-known .given y .fits) in
+    covering-turn (l .inv) q (t .loop-test .taken) (b .block-end .ensures) (u .0) (u .1) whole bytes (c .before .before .blend-block .ensures) refl
 
-lay-pixels-requires-8 : tie.Need-lay-pixels-requires-8
-lay-pixels-requires-8 c κs = let b = c .before .before .before in rw (b .enum-told9 .given .1) at (b .before .before .before .before .pre)
+same-length : tie.Need-same-length Inv-loop μ-loop
+same-length c = same (c .before .loop .inv .bytes)
 
-enum-told-12 : tie.Need-enum-told-12
-enum-told-12 c = search needs
-
-lay-pixels-requires-9 : tie.Need-lay-pixels-requires-9
-lay-pixels-requires-9 c κs = let b = c .before .before .before in rw (b .enum-told9 .given .1) at (b .before .before .before .before .pre)
-
-same-length : tie.Need-same-length
-same-length c = search needs
-
-returns : tie.Need-returns
-returns c =
-    let b = c .before .before .before .before in
-    rw (b .before .before .enum-told .given .1, b .enum-told2 .given .1) (c .before .before .lay-pixels .ensures)
-
-same-length-2 : tie.Need-same-length-2
-same-length-2 c = search needs
-
-returns-2 : tie.Need-returns-2
-returns-2 c =
-    let b = c .before .before .before .before in
-    rw (b .before .before .enum-told .given .1, b .enum-told3 .given .1) (c .before .before .lay-pixels2 .ensures)
-
-same-length-3 : tie.Need-same-length-3
-same-length-3 c = search needs
-
-returns-3 : tie.Need-returns-3
-returns-3 c =
-    let b = c .before .before .before .before in
-    rw (b .before .before .enum-told .given .1, b .enum-told4 .given .1) (c .before .before .lay-pixels3 .ensures)
-
-same-length-4 : tie.Need-same-length-4
-same-length-4 c = search needs
-
-returns-4 : tie.Need-returns-4
-returns-4 c =
-    let b = c .before .before .before .before in
-    rw (b .before .before .enum-told5 .given .1, b .enum-told6 .given .1) (c .before .before .lay-pixels4 .ensures)
-
-same-length-5 : tie.Need-same-length-5
-same-length-5 c = search needs
-
-returns-5 : tie.Need-returns-5
-returns-5 c =
-    let b = c .before .before .before .before in
-    rw (b .before .before .enum-told5 .given .1, b .enum-told7 .given .1) (c .before .before .lay-pixels5 .ensures)
-
-same-length-6 : tie.Need-same-length-6
-same-length-6 c = search needs
-
-returns-6 : tie.Need-returns-6
-returns-6 c =
-    let b = c .before .before .before .before in
-    rw (b .before .before .enum-told5 .given .1, b .enum-told8 .given .1) (c .before .before .lay-pixels6 .ensures)
-
-same-length-7 : tie.Need-same-length-7
-same-length-7 c = search needs
-
-returns-7 : tie.Need-returns-7
-returns-7 c =
-    let b = c .before .before .before .before in
-    rw (b .before .before .enum-told9 .given .1, b .enum-told10 .given .1) (c .before .before .lay-pixels7 .ensures)
-
-same-length-8 : tie.Need-same-length-8
-same-length-8 c = search needs
-
-returns-8 : tie.Need-returns-8
-returns-8 c =
-    let b = c .before .before .before .before in
-    rw (b .before .before .enum-told9 .given .1, b .enum-told11 .given .1) (c .before .before .lay-pixels8 .ensures)
-
-same-length-9 : tie.Need-same-length-9
-same-length-9 c = search needs
-
-returns-9 : tie.Need-returns-9
-returns-9 c =
-    let b = c .before .before .before .before in
-    rw (b .before .before .enum-told9 .given .1, b .enum-told12 .given .1) (c .before .before .lay-pixels9 .ensures)
+returns : tie.Need-returns Inv-loop μ-loop
+returns c = covering-done (c .before .loop .inv) (c .before .before .before .before .pre) (c .loop-test .left)
 
 pub lay-spec : {M : Type 1} → statement M
 lay-spec =
     tie.close
     (tie.spec
-    enum-told
-    enum-told-2
-    lay-pixels-requires
-    enum-told-3
-    lay-pixels-requires-2
-    enum-told-4
-    lay-pixels-requires-3
-    enum-told-5
-    enum-told-6
-    lay-pixels-requires-4
-    enum-told-7
-    lay-pixels-requires-5
-    enum-told-8
-    lay-pixels-requires-6
-    enum-told-9
-    enum-told-10
-    lay-pixels-requires-7
-    enum-told-11
-    lay-pixels-requires-8
-    enum-told-12
-    lay-pixels-requires-9
+    Inv-loop
+    μ-loop
+    loop-holds
+    block-end-requires
+    sub-turn-by
+    part-turn-by-start
+    part-turn-by-end
+    slice-aggregate-turn-by
+    slice-aggregate-turn-by-2
+    turn-by-requires
+    sub-blend-block
+    part-blend-block-start
+    part-blend-block-end
+    slice-aggregate-blend-block
+    slice-aggregate-blend-block-2
+    blend-block-requires
+    loop-less
+    loop-again
     same-length
-    returns
-    same-length-2
-    returns-2
-    same-length-3
-    returns-3
-    same-length-4
-    returns-4
-    same-length-5
-    returns-5
-    same-length-6
-    returns-6
-    same-length-7
-    returns-7
-    same-length-8
-    returns-8
-    same-length-9
-    returns-9)
+    returns)
