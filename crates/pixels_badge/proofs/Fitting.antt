@@ -19,13 +19,19 @@ use Rattle.pixels_badge.specs.Inner.{LayAsks}
 whole : (n w h : ℕ) → n ≡ pictureBytes pixelLanes w h → n / pixelLanes ≡ w * h
 whole n w h e = omega arith
 
--- the flag of the bytes is that of the picture
-pub flag-is : (size : Dimensions) (layout : PixelLayout) (pixels : List ℕ) (badgeSize : Dimensions) (m : ℕ) → bothNumber size (length pixels) badgeSize m ≡ 0 → {flag : Bool}
-    → flag ≡ hasAlpha layout pixels (length pixels / pixelLanes) → flag ≡ hasAlpha layout pixels (size .width * size .height)
-unfolding bothNumber
-flag-is size layout pixels badgeSize m z e =
-    let p = none-applies (bothCauses size (length pixels) badgeSize m) z in
-    e ∙ ap (hasAlpha layout pixels) (whole (length pixels) (size .width) (size .height) (same-of (length pixels) _ (p .1 .1 .0)))
+-- what a background of n bytes that passes 1 and 3 has
+module _ (size : Dimensions) (n : ℕ) (badgeSize : Dimensions) (m : ℕ) (z : bothNumber size n badgeSize m ≡ 0) where
+  long : n ≡ pictureBytes pixelLanes (size .width) (size .height)
+  unfolding bothNumber
+  long = same-of n _ (none-applies (bothCauses size n badgeSize m) z .1 .1 .0)
+
+  -- whole pixels
+  pub long-whole : n ≡ pixelLanes * (n / pixelLanes)
+  long-whole = omega (arith, long)
+
+  -- the flag of the bytes is that of the picture
+  pub flag-is : (layout : PixelLayout) (pixels : List ℕ) {flag : Bool} → flag ≡ hasAlpha layout pixels (n / pixelLanes) → flag ≡ hasAlpha layout pixels (size .width * size .height)
+  flag-is layout pixels e = e ∙ ap (hasAlpha layout pixels) (whole n (size .width) (size .height) long)
 
 -- what a background that passes has, of n pixels
 pub record PictureFits (layout : PixelLayout) (pixels : List ℕ) (n : ℕ) : Type 0 where

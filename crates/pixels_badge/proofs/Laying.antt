@@ -1,44 +1,29 @@
 -- The bytes of the result: each lane is laid on the lane of the same pixel, whatever the two layouts, and the result is opaque. Assumes nothing.
 use Prim.Native.Nat.{ℕ, zero, suc, _+_, _*_, _/_, _%_, _≤_, _<_}
 use mathlib.Core.Path.{_≡_, refl, sym, ap, _∙_}
-use mathlib.Core.Bool.{false, not, _||_}
-use mathlib.Core.Logic.{⊎-elim}
+use mathlib.Core.Bool.{false}
 use mathlib.Core.List.{List}
 use native.Mathlib.Omega.{arith}
-use native.Mathlib.Nat.{le-of-suc-le-suc, eq-or-lt-of-le}
-use lib.Dec.{eqb}
 use lib.ListN.{length}
-use borrow.Author.Tests.{eqb-true}
 use Rattle.arithmetic.specs.Table.{tabulate}
 use Rattle.arithmetic.proofs.Tables.{length-tabulate, getD-tabulate}
 use Rattle.pixels.specs.Sizes.{pixelLanes}
-use Rattle.pixels.proofs.Truths.{neither-true, not-false}
 use Rattle.pixels_layout.specs.declared.PixelLayout.{PixelLayout}
 use Rattle.pixels_layout.specs.Layout.{alphaLane, placeOf, laneAt, alphaAt}
 use Rattle.pixels_layout.proofs.Tabled.{place-lt, place-twice}
 use Rattle.pixels_alpha.specs.Alpha.{someClear, hasAlpha}
-use Rattle.pixels_alpha.proofs.Flags.{clear-none, clear-next}
+use Rattle.pixels_alpha.proofs.Flags.{clear-no, clear-none, clear-next}
 use Rattle.pixels_badge.specs.Badge.{laidLane, laidByte, laid}
 use Rattle.pixels_badge.proofs.Sums.{laid-clear, laid-full, alpha-laid}
 
 -- ---- opaque: every alpha is 255
-opaque-at : (a : ℕ → ℕ) (n i : ℕ) → someClear a n ≡ false → i < n → a i ≡ 255
-unfolding someClear
-opaque-at a zero i e l = absurd (omega arith)
-opaque-at a (suc n) i e l =
-    let p = neither-true (someClear a n) (not (eqb (a n) 255)) e in
-    ⊎-elim
-    (λ q. ap a q ∙ eqb-true (a n) 255 (not-false (eqb (a n) 255) (p .1)))
-    (λ m. opaque-at a n i (p .0) m)
-    (eq-or-lt-of-le (le-of-suc-le-suc l))
-
 opaque-all : (a : ℕ → ℕ) (n : ℕ) → ((i : ℕ) → i < n → a i ≡ 255) → someClear a n ≡ false
 opaque-all a zero h = clear-none a
 opaque-all a (suc n) h = ap (someClear a) (omega arith) ∙ clear-next a n (opaque-all a n (λ i l. h i (omega arith))) (h n (omega arith))
 
 pub alpha-opaque : (l : PixelLayout) (s : List ℕ) (n i : ℕ) → hasAlpha l s n ≡ false → i < n → alphaAt l s i ≡ 255
 unfolding hasAlpha
-alpha-opaque l s n i e h = opaque-at (alphaAt l s) n i e h
+alpha-opaque l s n i e h = clear-no (alphaAt l s) n e i h
 
 -- ---- the result of n pixels, lane by lane
 module _ (layout : PixelLayout) (pixels : List ℕ) (from : PixelLayout) (badge : List ℕ) (n : ℕ) (long : length pixels ≡ pixelLanes * n) where

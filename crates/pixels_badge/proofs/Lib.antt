@@ -1,5 +1,6 @@
 pub mod Sums
 pub mod Words
+pub mod OpaquePixels
 pub mod Turning
 pub mod Blocks
 pub mod Laying

@@ -5,7 +5,6 @@ use pixels::Dimensions;
 use pixels::PIXEL_LANES;
 use pixels::Refusal;
 use pixels::bad_size;
-use pixels_alpha::has_alpha;
 use pixels_layout::PixelLayout;
 use pixels_sizes::wrong_length;
 ghost use mathlib.Core.Path.{_≡_};
@@ -13,6 +12,7 @@ ghost use Prim.Native.Nat.{_+_, _*_, _/_, _^_, _≤_, min};
 ghost use lib.ListN.{length};
 ghost use Rattle.pixels.specs.Refusals.{checkedNumber};
 ghost use Rattle.pixels.specs.Sizes.{pixelLanes};
+ghost use Rattle.pixels_alpha.specs.Alpha.{hasAlpha};
 ghost use Rattle.pixels_badge.specs.Badge.{blended, laid, bothNumber, otherSize, badgeNumber, badgeOut};
 ghost use Rattle.pixels_badge.specs.Inner.{wordAt, putWord, LanesAre, opaqueWord, filledBy, alphaIn, colourIn, TurnAsks, pairAt, putPair, blendedPair, blendedBlock, BlockAsks, blockBytes, LayAsks};
 
@@ -308,6 +308,20 @@ fn other_size(a: Dimensions, b: Dimensions) -> bool
     a.height != b.height
 }
 
+// Whether some pixel isn't opaque: a byte of all pixels' words and-ed is 255 exactly if each pixel's is. The compiler ands four pixels at once.
+fn some_clear(layout: PixelLayout, pixels: &[u8]) -> bool
+    requires { ⌜ length (now pixels) ≡ pixelLanes * (length (now pixels) / pixelLanes) ⌝ }
+    ensures { λ r. ⌜ r ≡ hasAlpha layout (now (pixels .entry)) (length (now (pixels .entry)) / pixelLanes) ⌝ }
+{
+    let mut all = 4294967295u32;
+    let mut x = 0usize;
+    while x < pixels.len() {
+        all = all & word(pixels, x);
+        x += PIXEL_LANES;
+    }
+    lanes_of(layout, all).a != 255
+}
+
 // Then 15 and 16.
 fn check_badge(
     size: Dimensions,
@@ -328,7 +342,7 @@ fn check_badge(
     if other_size(size, badge_size) {
         return Checked::Refused(Refusal::UnequalSizes);
     }
-    if has_alpha(layout, pixels) {
+    if some_clear(layout, pixels) {
         return Checked::Refused(Refusal::BackgroundNotOpaque);
     }
     Checked::Fit

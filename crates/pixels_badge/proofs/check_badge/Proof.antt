@@ -4,7 +4,7 @@ use mathlib.Core.Path.{_≡_, sym, _∙_}
 use lib.ListN.{length}
 use Rattle.pixels.proofs.Causes.{first-at, first-none, first-past, first-stays}
 use Rattle.pixels_badge.specs.Badge.{bothCauses, bothNumber, layCauses, badgeNumber}
-use Rattle.pixels_badge.proofs.Fitting.{flag-is}
+use Rattle.pixels_badge.proofs.Fitting.{long-whole, flag-is}
 use borrow.Author.Needs.{needs}
 use Rattle.pixels_badge.proofs.check_badge.Statement.{statement}
 use Rattle.pixels_badge.proofs.check_badge.Tie as tie
@@ -39,8 +39,13 @@ returns-2 c =
     let rest = layCauses (a .size) (a .layout) (a .pixels .now) (a .badge-size) in
     sym (first-past (bothCauses (a .size) (length (a .pixels .now)) (a .badge-size) (a .m)) rest z ∙ first-at rest 0 tt (sym (c .before .other-size .ensures) ∙ c .if1 .taken))
 
-has-alpha-requires : tie.Need-has-alpha-requires
-has-alpha-requires c κs = search needs
+some-clear-requires : tie.Need-some-clear-requires
+some-clear-requires c κs =
+    let t = c .before .before in
+    let b = t .before .before in
+    let a = b .before .before .args in
+    let z = sym (rw (t .enum-told .given .1) at (b .check-both .ensures)) in
+    long-whole (a .size) (length (a .pixels .now)) (a .badge-size) (a .m) z
 
 returns-3 : tie.Need-returns-3
 unfolding bothNumber badgeNumber
@@ -52,7 +57,7 @@ returns-3 c =
     let z = sym (rw (t .enum-told .given .1) at (b .check-both .ensures)) in
     let rest = layCauses (a .size) (a .layout) (a .pixels .now) (a .badge-size) in
     let alike = sym (s .before .other-size .ensures) ∙ s .if1 .left in
-    let clear = flag-is (a .size) (a .layout) (a .pixels .now) (a .badge-size) (a .m) z (c .before .has-alpha .ensures) in
+    let clear = flag-is (a .size) (length (a .pixels .now)) (a .badge-size) (a .m) z (a .layout) (a .pixels .now) (c .before .some-clear .ensures) in
     sym (first-past (bothCauses (a .size) (length (a .pixels .now)) (a .badge-size) (a .m)) rest z ∙ first-at rest 1 (alike, tt) (sym clear ∙ c .if2 .taken))
 
 returns-4 : tie.Need-returns-4
@@ -65,7 +70,7 @@ returns-4 c =
     let z = sym (rw (t .enum-told .given .1) at (b .check-both .ensures)) in
     let rest = layCauses (a .size) (a .layout) (a .pixels .now) (a .badge-size) in
     let alike = sym (s .before .other-size .ensures) ∙ s .if1 .left in
-    let clear = flag-is (a .size) (a .layout) (a .pixels .now) (a .badge-size) (a .m) z (c .before .has-alpha .ensures) in
+    let clear = flag-is (a .size) (length (a .pixels .now)) (a .badge-size) (a .m) z (a .layout) (a .pixels .now) (c .before .some-clear .ensures) in
     sym (first-past (bothCauses (a .size) (length (a .pixels .now)) (a .badge-size) (a .m)) rest z ∙ first-none rest (alike, (sym clear ∙ c .if2 .left, tt)))
 
 pub check-badge-spec : {M : Type 1} → statement M
@@ -78,6 +83,6 @@ check-badge-spec =
     enum-told
     other-size-requires
     returns-2
-    has-alpha-requires
+    some-clear-requires
     returns-3
     returns-4)
