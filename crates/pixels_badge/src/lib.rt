@@ -1,4 +1,4 @@
-// A club badge over an opaque background of the same size, in place (SCOPE, "A badge over a background"). One pass that tests, one that writes, pixel by pixel.
+// A club badge over an opaque background of the same size, in place (SCOPE, "A badge over a background"). One pass that tests, one that writes.
 use arithmetic::matte;
 use pixels::Checked;
 use pixels::Dimensions;
