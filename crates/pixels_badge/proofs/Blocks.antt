@@ -10,10 +10,6 @@ use Rattle.pixels_badge.specs.Inner.{pairAt, putPair, blendedPair, blend
 use Rattle.pixels_badge.proofs.Sums.{blended-most}
 
 -- ---- two bytes as a number
-pub pair-is : (s : List ℕ) (x : ℕ) → getD s x 0 + 256 * getD s (x + 1) 0 ≡ pairAt s x
-unfolding pairAt
-pair-is s x = refl
-
 low-of : (s : List ℕ) (x : ℕ) → getD s x 0 ≤ 255 → pairAt s x % 256 ≡ getD s x 0
 unfolding pairAt
 low-of s x h = omega arith
@@ -91,7 +87,8 @@ module _ {pixels alphas colours s : List ℕ} {x : ℕ} (i : Blending pixels alp
           pair-high (pairAt alphas x) (pairAt colours x) (pairAt s x) colours-pair pixels-pair
           ∙ rw (low-of alphas x (ks x), high-of colours x (cs x), high-of s x (ahead-small x (omega arith)), ahead (i .bytes) (x + 1) (omega arith), e) refl
 
-      pub blending-turn : {a o u v : ℕ} {s′ : List ℕ} → a ≡ pairAt alphas x → o ≡ pairAt colours x → u ≡ pairAt s x → v ≡ blendedPair a o u → s′ ≡ putPair s x v → Blending pixels alphas colours s′ (x + 2)
+      pub blending-turn : {a o u v : ℕ} {s′ : List ℕ} → a ≡ pairAt alphas x → o ≡ pairAt colours x → u ≡ pairAt s x → v ≡ blendedPair a o u → s′ ≡ putPair s x v
+          → Blending pixels alphas colours s′ (x + 2)
       unfolding putPair
       blending-turn {a} {o} {u} {v} ea eo eu ev p =
           let is : v ≡ blendedPair (pairAt alphas x) (pairAt colours x) (pairAt s x) = ev ∙ rw (ea, eo, eu) refl in
