@@ -129,7 +129,9 @@ def accepted():
     for layout in LAYOUTS:
         for badge_layout in LAYOUTS:
             yield edge_colours(layout, badge_layout)
-            sizes = [(1, 1), (1, 7), (7, 1)] + [(rng.randint(1, 40), rng.randint(1, 12)) for _ in range(12)]
+            # 63 to 65 and 127 to 129 pixels: around one block of the library's and two
+            sizes = [(1, 1), (1, 7), (7, 1), (63, 1), (1, 64), (5, 13), (127, 1), (2, 64), (43, 3)]
+            sizes += [(rng.randint(1, 40), rng.randint(1, 12)) for _ in range(12)]
             if badge_layout == (layout + 1) % 3:
                 sizes += [(16384, 1), (1, 16384)]
             for width, height in sizes:
