@@ -118,86 +118,26 @@ fn turn(layout: PixelLayout, from: PixelLayout, badge: &[u8], alphas: &mut [u8],
 }
 
 // The loop for each pair of layouts: named here, before the loop, the compiler makes a loop of each with the lanes' places written into it.
-fn turn_by(
-    layout: PixelLayout,
-    from: PixelLayout,
-    badge: &[u8],
-    alphas: &mut [u8],
-    colours: &mut [u8],
-)
-    requires { ⌜ TurnAsks (now badge) (now alphas) (now colours) ⌝ }
-    ensures alphas { λ _. ⌜ now (alphas .exit) ≡ filledBy (alphaIn from (now (badge .entry))) (length (now (badge .entry))) (now (alphas .entry)) ⌝ }
-    ensures colours { λ _. ⌜ now (colours .exit) ≡ filledBy (colourIn layout from (now (badge .entry))) (length (now (badge .entry))) (now (colours .entry)) ⌝ }
+fn turn_by(layout: PixelLayout, from: PixelLayout, badge: &[u8], a: &mut [u8], c: &mut [u8])
+    requires { ⌜ TurnAsks (now badge) (now a) (now c) ⌝ }
+    ensures a { λ _. ⌜ now (a .exit) ≡ filledBy (alphaIn from (now (badge .entry))) (length (now (badge .entry))) (now (a .entry)) ⌝ }
+    ensures c { λ _. ⌜ now (c .exit) ≡ filledBy (colourIn layout from (now (badge .entry))) (length (now (badge .entry))) (now (c .entry)) ⌝ }
 {
     match layout {
         PixelLayout::Rgba8 => match from {
-            PixelLayout::Rgba8 => turn(
-                PixelLayout::Rgba8,
-                PixelLayout::Rgba8,
-                badge,
-                alphas,
-                colours,
-            ),
-            PixelLayout::Argb8 => turn(
-                PixelLayout::Rgba8,
-                PixelLayout::Argb8,
-                badge,
-                alphas,
-                colours,
-            ),
-            PixelLayout::Bgra8 => turn(
-                PixelLayout::Rgba8,
-                PixelLayout::Bgra8,
-                badge,
-                alphas,
-                colours,
-            ),
+            PixelLayout::Rgba8 => turn(PixelLayout::Rgba8, PixelLayout::Rgba8, badge, a, c),
+            PixelLayout::Argb8 => turn(PixelLayout::Rgba8, PixelLayout::Argb8, badge, a, c),
+            PixelLayout::Bgra8 => turn(PixelLayout::Rgba8, PixelLayout::Bgra8, badge, a, c),
         },
         PixelLayout::Argb8 => match from {
-            PixelLayout::Rgba8 => turn(
-                PixelLayout::Argb8,
-                PixelLayout::Rgba8,
-                badge,
-                alphas,
-                colours,
-            ),
-            PixelLayout::Argb8 => turn(
-                PixelLayout::Argb8,
-                PixelLayout::Argb8,
-                badge,
-                alphas,
-                colours,
-            ),
-            PixelLayout::Bgra8 => turn(
-                PixelLayout::Argb8,
-                PixelLayout::Bgra8,
-                badge,
-                alphas,
-                colours,
-            ),
+            PixelLayout::Rgba8 => turn(PixelLayout::Argb8, PixelLayout::Rgba8, badge, a, c),
+            PixelLayout::Argb8 => turn(PixelLayout::Argb8, PixelLayout::Argb8, badge, a, c),
+            PixelLayout::Bgra8 => turn(PixelLayout::Argb8, PixelLayout::Bgra8, badge, a, c),
         },
         PixelLayout::Bgra8 => match from {
-            PixelLayout::Rgba8 => turn(
-                PixelLayout::Bgra8,
-                PixelLayout::Rgba8,
-                badge,
-                alphas,
-                colours,
-            ),
-            PixelLayout::Argb8 => turn(
-                PixelLayout::Bgra8,
-                PixelLayout::Argb8,
-                badge,
-                alphas,
-                colours,
-            ),
-            PixelLayout::Bgra8 => turn(
-                PixelLayout::Bgra8,
-                PixelLayout::Bgra8,
-                badge,
-                alphas,
-                colours,
-            ),
+            PixelLayout::Rgba8 => turn(PixelLayout::Bgra8, PixelLayout::Rgba8, badge, a, c),
+            PixelLayout::Argb8 => turn(PixelLayout::Bgra8, PixelLayout::Argb8, badge, a, c),
+            PixelLayout::Bgra8 => turn(PixelLayout::Bgra8, PixelLayout::Bgra8, badge, a, c),
         },
     }
 }
