@@ -28,9 +28,9 @@ extern "C" {
 #endif
 
 #define JONQUILSAW_VERSION_MAJOR 0
-#define JONQUILSAW_VERSION_MINOR 8
+#define JONQUILSAW_VERSION_MINOR 9
 #define JONQUILSAW_VERSION_PATCH 0
-#define JONQUILSAW_VERSION "0.8.0"
+#define JONQUILSAW_VERSION "0.9.0"
 
 /* The largest side of a picture or a plane. */
 #define JONQUILSAW_MAX_SIDE 16384u
@@ -123,6 +123,10 @@ typedef enum jonquilsaw_number {
     JONQUILSAW_INVALID_GROUP = 13,
     /* a group of more than six jobs (JONQUILSAW_GROUP_LIMIT); tested straight after 13 */
     JONQUILSAW_GROUP_TOO_LARGE = 14,
+    /* a badge of another size than its background; tested straight after 3 */
+    JONQUILSAW_UNEQUAL_SIZES = 15,
+    /* a background with an alpha byte other than 255; tested straight after 15 */
+    JONQUILSAW_BACKGROUND_NOT_OPAQUE = 16,
     /* a layout argument that is none, or a slice for the answer that is too short; of a group's plans
      * too few words, or a layout or kind word that is none; tested before all others */
     JONQUILSAW_BOUNDARY = 100
@@ -230,6 +234,16 @@ uint32_t jonquilsaw_apply_alpha_plane(uint32_t width, uint32_t height, uint32_t 
                                       uint8_t *pixels, size_t pixels_count, const uint8_t *plane,
                                       size_t plane_count, uint32_t *flag, size_t flag_count);
 
+/* Lays a badge on an opaque background of the same size, in the background's place: where the badge's
+ * alpha is 0 the background stays, where it is 255 the badge replaces it, and between those each
+ * colour is the badge's matted by its alpha plus the background's matted by 255 less that alpha. The
+ * result is opaque and has the background's layout; the badge may have another. Refuses with 100 (a
+ * layout that is none), 1, 3, 15, 16, in this order, each of them looked for over both pictures
+ * before the next. */
+uint32_t jonquilsaw_badge_lay(uint32_t width, uint32_t height, uint32_t layout, uint8_t *pixels,
+                              size_t pixels_count, uint32_t badge_width, uint32_t badge_height,
+                              uint32_t badge_layout, const uint8_t *badge, size_t badge_count);
+
 /* The size that a picture of width by height scales to, written to the first two words of size: a
  * target side of 0 is derived from the other so that the ratio is kept, rounded up. Refuses with
  * 100 (fewer than two words of size), 1 (both sides 0, or a side of 0 or above 16,384), in this
@@ -315,6 +329,8 @@ static inline const char *jonquilsaw_meaning(uint32_t number) {
         return "the PAM picture is not of DEPTH 4, MAXVAL 255 and TUPLTYPE RGB_ALPHA";
     case JONQUILSAW_INVALID_GROUP: return "the jobs make no group, or it has no such job";
     case JONQUILSAW_GROUP_TOO_LARGE: return "there are more jobs than a group holds";
+    case JONQUILSAW_UNEQUAL_SIZES: return "the badge has another size than the background";
+    case JONQUILSAW_BACKGROUND_NOT_OPAQUE: return "the background is not opaque";
     case JONQUILSAW_BOUNDARY: return "a layout or kind is none, or a lent slice is too short";
     default: return "no number of this library";
     }

@@ -19,6 +19,7 @@
 #include <time.h>
 #include <unistd.h>
 
+#include "badge.h"
 #include "jonquilsaw.h"
 
 #ifndef NO_LIBWEBP
@@ -58,10 +59,29 @@ static const Plane kPlanes[] = {{1, 1920, 1080, 320, 180}, {3, 1920, 1080, 320, 
 static const Job kPreviews[] = {{"large", 4000, 3000, 0, 0, 4000, 3000, 320, 240},
                                 {"middle", 4000, 3000, 0, 0, 4000, 3000, 160, 120},
                                 {"small", 4000, 3000, 0, 0, 4000, 3000, 64, 48}};
+
+/* Badges, translucent, over opaque backgrounds: the layouts of both, and the loop of plain C for them. */
+typedef struct {
+  const char* name;
+  uint32_t w, h, layout, under;
+  PlainBadge* plain;
+} Badge;
+
+static const Badge kBadges[] = {
+    {"Rgba8 over Rgba8", 320, 240, JONQUILSAW_RGBA8, JONQUILSAW_RGBA8, plain_rgba_over_rgba},
+    {"Argb8 over Argb8", 320, 240, JONQUILSAW_ARGB8, JONQUILSAW_ARGB8, plain_argb_over_argb},
+    {"Rgba8 over Bgra8", 320, 240, JONQUILSAW_RGBA8, JONQUILSAW_BGRA8, plain_rgba_over_bgra},
+    {"Argb8 over Rgba8", 320, 240, JONQUILSAW_ARGB8, JONQUILSAW_RGBA8, plain_argb_over_rgba},
+    {"Rgba8 over Rgba8", 1280, 960, JONQUILSAW_RGBA8, JONQUILSAW_RGBA8, plain_rgba_over_rgba},
+    {"Argb8 over Argb8", 1280, 960, JONQUILSAW_ARGB8, JONQUILSAW_ARGB8, plain_argb_over_argb},
+    {"Rgba8 over Bgra8", 1280, 960, JONQUILSAW_RGBA8, JONQUILSAW_BGRA8, plain_rgba_over_bgra},
+    {"Argb8 over Rgba8", 1280, 960, JONQUILSAW_ARGB8, JONQUILSAW_RGBA8, plain_argb_over_rgba},
+};
 enum {
   JOBS = sizeof kJobs / sizeof kJobs[0],
   PLANES = sizeof kPlanes / sizeof kPlanes[0],
   PREVIEWS = sizeof kPreviews / sizeof kPreviews[0],
+  BADGES = sizeof kBadges / sizeof kBadges[0],
   ARRIVING = 8,
   MOST_ROUNDS = 1000
 };
@@ -479,6 +499,37 @@ static void measure_previews(int translucent, int rounds, double spent[WAYS][MOS
   free(argb), free(work), free(pixels), free(made[GROUP]), free(made[PASSES]);
 }
 
+/* The two that lay a badge. Ours sees that the background is opaque; plain C blends only. */
+enum { LAID, LAID_PLAIN, LAYERS };
+
+static double time_layer(int layer, const Badge* b, uint8_t* pixels, const uint8_t* badge) {
+  const size_t n = (size_t)b->w * b->h;
+  const double t = now();
+  if (layer == LAID_PLAIN) b->plain(pixels, badge, n);
+  else if (jonquilsaw_badge_lay(b->w, b->h, b->under, pixels, 4 * n, b->w, b->h, b->layout, badge, 4 * n)) refuse("badge_lay");
+  return now() - t;
+}
+
+/* As `measure`, in ns for each pixel: the background is made anew before each turn. */
+static void measure_badge(const Badge* b, int rounds, double spent[LAYERS][MOST_ROUNDS]) {
+  const size_t n = (size_t)b->w * b->h;
+  uint8_t *const under = room(4 * n), *const badge = room(4 * n);
+  uint8_t* const made[LAYERS] = {room(4 * n), room(4 * n)};
+  uint32_t state = 1;
+  for (size_t i = 0; i < n; ++i) pack(b->under, next_pixel(&state, 0), under + 4 * i);
+  for (size_t i = 0; i < n; ++i) pack(b->layout, next_pixel(&state, 1), badge + 4 * i);
+  for (int r = -1; r < rounds; ++r) { /* round -1 warms up */
+    for (int k = 0; k < LAYERS; ++k) {
+      const int layer = (k + r + 1) % LAYERS;
+      memcpy(made[layer], under, 4 * n);
+      const double t = time_layer(layer, b, made[layer], badge);
+      if (r >= 0) spent[layer][r] = t / (double)n;
+    }
+    if (memcmp(made[LAID], made[LAID_PLAIN], 4 * n)) refuse("the port and plain C do not lay a badge alike");
+  }
+  free(under), free(badge), free(made[LAID]), free(made[LAID_PLAIN]);
+}
+
 /* Peak memory: a translucent picture made by the process itself, nothing kept that the side does not need. */
 
 typedef struct {
@@ -653,6 +704,23 @@ static void preview_times(int wanted) {
   }
 }
 
+static void badge_times(int wanted) {
+  static double spent[LAYERS][MOST_ROUNDS];
+  fputs("\nBadges, translucent, over an opaque background: ours, which sees that it is opaque, and a loop of plain C, which blends only; ", stdout);
+  puts("ns of processor time for each pixel, the rest as above:\n");
+  puts("| badge | ours | plain C | ours / plain C |\n|---|---|---|---|");
+  for (int i = 0; i < BADGES; ++i) {
+    const Badge* const b = &kBadges[i];
+    const int rounds = wanted ? wanted : 45;
+    measure_badge(b, rounds, spent);
+    printf("| %ux%u, %s |", b->w, b->h, b->name);
+    for (int layer = 0; layer < LAYERS; ++layer) printf(" %.2f |", figure(spent[layer], rounds).median);
+    ratio(spent, LAID, LAID_PLAIN, rounds, 1);
+    putchar('\n');
+    fflush(stdout);
+  }
+}
+
 static void memory(char* program) {
   printf("\nPeak memory (VmHWM) of a process of its own for each, KiB; one that does nothing has %ld:\n\n", peak_of(program, SIDES, 0));
   fputs("| job |", stdout);
@@ -695,6 +763,7 @@ int main(int argc, char** argv) {
   times((int)wanted);
   plane_times((int)wanted);
   preview_times((int)wanted);
+  badge_times((int)wanted);
   memory(argv[0]);
   return 0;
 }

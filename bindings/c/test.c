@@ -1,5 +1,5 @@
-/* Calls every function of include/jonquilsaw.h: the trials of docs/SCOPE.md, planes and restored pixels against its formulas, PAM pictures, groups against their jobs
- * alone, each refusal in its order, and that a refused call leaves every buffer as it was.
+/* Calls every function of include/jonquilsaw.h: the trials of docs/SCOPE.md, planes, restored pixels and badges against its formulas, PAM pictures, groups against their
+ * jobs alone, each refusal in its order, and that a refused call leaves every buffer as it was.
  * Every buffer is lent with a page behind it that cannot be touched, since the sanitizers look at this file only. Prints one line. */
 #define _DEFAULT_SOURCE
 #include "jonquilsaw.h"
@@ -388,10 +388,10 @@ static void with_types(void) {
     EXPECT(all_of.x == 0 && all_of.y == 0 && all_of.width == 2 && all_of.height == 3);
 
     /* each number has words of its own */
-    const uint32_t numbers[] = {0, 1, 2, 3, 4, 5, 6, 7, 8, 9, 10, 11, 12, 13, 14, 100, 101};
+    const uint32_t numbers[] = {0, 1, 2, 3, 4, 5, 6, 7, 8, 9, 10, 11, 12, 13, 14, 15, 16, 100, 101};
     for (size_t i = 0; i < sizeof numbers / sizeof *numbers; i++)
         for (size_t k = 0; k < i; k++) EXPECT(strcmp(jonquilsaw_meaning(numbers[i]), jonquilsaw_meaning(numbers[k])) != 0);
-    EXPECT(strcmp(jonquilsaw_meaning(15), jonquilsaw_meaning(4294967295u)) == 0);
+    EXPECT(strcmp(jonquilsaw_meaning(17), jonquilsaw_meaning(4294967295u)) == 0);
     char version[32];
     snprintf(version, sizeof version, "%d.%d.%d", JONQUILSAW_VERSION_MAJOR, JONQUILSAW_VERSION_MINOR, JONQUILSAW_VERSION_PATCH);
     EXPECT(strcmp(version, JONQUILSAW_VERSION) == 0);
@@ -1424,6 +1424,176 @@ static void groups(void) {
     groups_with_types();
 }
 
+/* ---- badges */
+
+/* One colour of a badge over the background's, by mult_argb's matte: the sum is never above 255. */
+static uint8_t laid(uint8_t alpha, uint8_t colour, uint8_t under) {
+    if (alpha == 0) return under;
+    if (alpha == 255) return colour;
+    const int sum = by_alpha(colour, alpha, 0) + by_alpha(under, 255u - alpha, 0);
+    if (sum > 255) failures++;
+    return (uint8_t)sum;
+}
+
+/* A badge in one layout on a background in another: of any colours, and of any alphas or of all in turn. Both begin at an odd place and end where nothing can be touched. */
+static void badge_on(uint32_t w, uint32_t h, uint32_t layout, uint32_t from, int in_turn) {
+    enum { BEFORE = 3 };
+    const size_t n = (size_t)4 * w * h;
+    uint8_t *background = bytes_of(BEFORE + n, 7), *badge = bytes_of(BEFORE + n, 8), *want = bytes_of(BEFORE + n, 7), *kept = bytes_of(BEFORE + n, 8);
+    for (size_t i = BEFORE; i < BEFORE + n; i += 4) {
+        uint8_t over[4], under[3], made[3];
+        for (int k = 0; k < 4; k++) over[k] = any_byte();
+        for (int k = 0; k < 3; k++) under[k] = any_byte();
+        if (in_turn) over[3] = (uint8_t)(i / 4);
+        for (int k = 0; k < 3; k++) made[k] = laid(over[3], over[k], under[k]);
+        put(badge + i, from, over[0], over[1], over[2], over[3]);
+        put(background + i, layout, under[0], under[1], under[2], 255);
+        put(want + i, layout, made[0], made[1], made[2], 255);
+    }
+    memcpy(kept, badge, BEFORE + n);
+    EXPECT(jonquilsaw_badge_lay(w, h, layout, background + BEFORE, n, w, h, from, badge + BEFORE, n) == 0);
+    EXPECT(memcmp(background, want, BEFORE + n) == 0 && memcmp(badge, kept, BEFORE + n) == 0);
+    give_back(background, BEFORE + n);
+    give_back(badge, BEFORE + n);
+    give_back(want, BEFORE + n);
+    give_back(kept, BEFORE + n);
+}
+
+/* Values worked out by hand, in each pair of layouts. */
+static void badges_by_hand(uint32_t layout, uint32_t from) {
+    const struct {
+        uint8_t over[4], under[3], made[3];
+    } trials_of[] = {
+        {{200, 100, 50, 0}, {1, 2, 3}, {1, 2, 3}},
+        {{200, 100, 50, 255}, {1, 2, 3}, {200, 100, 50}},
+        /* 200 x 8421504 + 2^23 is 100 x 2^24 and some, 100 x 8355711 + 2^23 is 50 x 2^24 and some */
+        {{200, 255, 0, 128}, {100, 0, 255}, {150, 128, 127}},
+        /* 65793 x 127 is below 2^23 and 65793 x 128 is not */
+        {{127, 128, 255, 1}, {0, 0, 0}, {0, 1, 1}},
+        {{255, 255, 255, 77}, {255, 255, 255}, {255, 255, 255}},
+    };
+    const size_t count = sizeof trials_of / sizeof *trials_of;
+    uint8_t *background = bytes_of(4 * count, 0), *badge = bytes_of(4 * count, 0), *want = bytes_of(4 * count, 0);
+    for (size_t i = 0; i < count; i++) {
+        put(badge + 4 * i, from, trials_of[i].over[0], trials_of[i].over[1], trials_of[i].over[2], trials_of[i].over[3]);
+        put(background + 4 * i, layout, trials_of[i].under[0], trials_of[i].under[1], trials_of[i].under[2], 255);
+        put(want + 4 * i, layout, trials_of[i].made[0], trials_of[i].made[1], trials_of[i].made[2], 255);
+    }
+    EXPECT(jonquilsaw_badge_lay((uint32_t)count, 1, layout, background, 4 * count, (uint32_t)count, 1, from, badge, 4 * count) == 0);
+    EXPECT(memcmp(background, want, 4 * count) == 0);
+}
+
+/* What a call is given: the arguments of jonquilsaw_badge_lay but for the pointers, and the alpha byte of the last pixel that is lent. */
+enum { NONE, WIDE, HIGH, LAYOUT, PIXELS_LENT, BADGE_WIDE, BADGE_HIGH, BADGE_LAYOUT, BADGE_LENT, LAST_ALPHA, BADGE_ARGUMENTS };
+
+/* Each cause of 100, 1, 3, 15 and 16, alone and two at a time: the first of the order is told, and nothing is written. */
+static void badges_refused(uint32_t layout, uint32_t from) {
+    const uint32_t right[BADGE_ARGUMENTS] = {0, 2, 3, layout, 24, 2, 3, from, 24, 255};
+    const struct {
+        uint32_t number;
+        struct {
+            int place;
+            uint32_t value;
+        } given[2];
+    } wrong[] = {
+        {100, {{LAYOUT, 3}}},
+        {100, {{LAYOUT, 4294967295u}}},
+        {100, {{BADGE_LAYOUT, 3}}},
+        {100, {{BADGE_LAYOUT, 4294967295u}}},
+        {1, {{WIDE, 0}}},
+        {1, {{WIDE, 16385}}},
+        {1, {{HIGH, 0}}},
+        {1, {{HIGH, 4294967295u}}},
+        {1, {{BADGE_WIDE, 0}}},
+        {1, {{BADGE_WIDE, 16385}}},
+        {1, {{BADGE_HIGH, 0}}},
+        {1, {{BADGE_HIGH, 4294967295u}}},
+        {3, {{PIXELS_LENT, 0}}},
+        {3, {{PIXELS_LENT, 23}}},
+        {3, {{PIXELS_LENT, 28}}},
+        {3, {{BADGE_LENT, 0}}},
+        {3, {{BADGE_LENT, 23}}},
+        {3, {{BADGE_LENT, 28}}},
+        /* both sides exchanged, which takes as many bytes; or one side alone, with the bytes of it */
+        {15, {{BADGE_WIDE, 3}, {BADGE_HIGH, 2}}},
+        {15, {{BADGE_WIDE, 1}, {BADGE_LENT, 12}}},
+        {15, {{BADGE_HIGH, 2}, {BADGE_LENT, 16}}},
+        {15, {{WIDE, 3}, {HIGH, 2}}},
+        {15, {{WIDE, 1}, {PIXELS_LENT, 12}}},
+        {15, {{HIGH, 2}, {PIXELS_LENT, 16}}},
+        {16, {{LAST_ALPHA, 254}}},
+        {16, {{LAST_ALPHA, 0}}},
+    };
+    static const uint32_t order[] = {100, 1, 3, 15, 16};
+    const size_t count = sizeof wrong / sizeof *wrong;
+    uint8_t *background = bytes_of(28, 255), *badge = bytes_of(28, 128), *kept = bytes_of(28, 0), *kept_badge = bytes_of(28, 128);
+    for (size_t i = 0; i < count; i++) {
+        for (size_t j = i; j < count; j++) {
+            uint32_t given[BADGE_ARGUMENTS];
+            int said[BADGE_ARGUMENTS] = {0}, meet = 0;
+            memcpy(given, right, sizeof given);
+            for (int k = 0; k < 2; k++) {
+                given[wrong[i].given[k].place] = wrong[i].given[k].value;
+                said[wrong[i].given[k].place] = 1;
+            }
+            for (int k = 0; k < 2; k++) {
+                meet |= wrong[j].given[k].place != NONE && said[wrong[j].given[k].place];
+                given[wrong[j].given[k].place] = wrong[j].given[k].value;
+            }
+            /* an argument has one value, and two sizes that are not the right one may be equal */
+            if (j != i && (meet || (wrong[i].number == 15 && wrong[j].number == 15))) continue;
+            const uint32_t *first = order;
+            while (*first != wrong[i].number && *first != wrong[j].number) first++;
+            memset(background, 255, 28);
+            if (given[PIXELS_LENT] >= 4) background[given[PIXELS_LENT] / 4 * 4 - 4 + (uint32_t)places[layout][3]] = (uint8_t)given[LAST_ALPHA];
+            memcpy(kept, background, 28);
+            EXPECT(jonquilsaw_badge_lay(given[WIDE], given[HIGH], given[LAYOUT], background, given[PIXELS_LENT], given[BADGE_WIDE], given[BADGE_HIGH], given[BADGE_LAYOUT], badge, given[BADGE_LENT]) == *first);
+            EXPECT(memcmp(background, kept, 28) == 0 && memcmp(badge, kept_badge, 28) == 0);
+        }
+    }
+    /* one alpha byte in any pixel, under a badge that would hide it, leave it or blend it */
+    for (uint32_t pixel = 0; pixel < 6; pixel++) {
+        for (uint32_t value = 0; value < 255; value += 127) {
+            for (uint32_t over = 0; over < 256; over += 51) {
+                memset(background, 255, 28);
+                background[4 * pixel + (uint32_t)places[layout][3]] = (uint8_t)value;
+                memcpy(kept, background, 28);
+                memset(badge, (int)over, 24);
+                EXPECT(jonquilsaw_badge_lay(2, 3, layout, background, 24, 2, 3, from, badge, 24) == JONQUILSAW_BACKGROUND_NOT_OPAQUE);
+                EXPECT(memcmp(background, kept, 28) == 0 && all(badge, 24, (uint8_t)over));
+            }
+        }
+    }
+    /* what is right is taken, and a byte behind it is not touched: white under black of alpha 0 stays white, and a colour of 0 is no alpha */
+    memset(background, 255, 28);
+    memset(badge, 0, 28);
+    EXPECT(jonquilsaw_badge_lay(2, 3, layout, background, 24, 2, 3, from, badge, 24) == 0 && all(background, 28, 255) && all(badge, 28, 0));
+    for (uint32_t i = 0; i < 6; i++) put(background + 4 * i, layout, 0, 0, 0, 255);
+    memset(badge, 255, 28);
+    EXPECT(jonquilsaw_badge_lay(2, 3, layout, background, 24, 2, 3, from, badge, 24) == 0 && all(background, 28, 255) && all(badge, 28, 255));
+    give_back(background, 28);
+    give_back(badge, 28);
+    give_back(kept, 28);
+    give_back(kept_badge, 28);
+}
+
+static void badges(void) {
+    static const jonquilsaw_size sizes_of[] = {{1, 1}, {2, 1}, {1, 3}, {5, 1}, {7, 3}, {16, 2}, {33, 5}};
+    for (uint32_t layout = 0; layout < 3; layout++) {
+        for (uint32_t from = 0; from < 3; from++) {
+            badges_by_hand(layout, from);
+            badges_refused(layout, from);
+            for (size_t i = 0; i < sizeof sizes_of / sizeof *sizes_of; i++) badge_on(sizes_of[i].width, sizes_of[i].height, layout, from, 0);
+            /* each alpha with 64 pairs of colours in each lane, twice */
+            badge_on(16384, 1, layout, from, 1);
+            badge_on(1, 16384, layout, from, 1);
+        }
+    }
+    EXPECT(jonquilsaw_badge_lay(0, 1, 3, NULL, 0, 1, 1, 0, NULL, 0) == JONQUILSAW_BOUNDARY);
+    EXPECT(jonquilsaw_badge_lay(0, 1, 2, NULL, 0, 1, 1, 0, NULL, 0) == JONQUILSAW_INVALID_DIMENSIONS);
+    EXPECT(jonquilsaw_badge_lay(1, 1, 2, NULL, 0, 2, 1, 0, NULL, 0) == JONQUILSAW_PIXEL_BUFFER_MISMATCH);
+}
+
 int main(void) {
     starts();
     offers_and_takes();
@@ -1441,6 +1611,7 @@ int main(void) {
     no_spill();
     pam();
     groups();
+    badges();
     printf("c: %lu checks, %lu failed\n", checks, failures);
     return failures == 0 ? 0 : 1;
 }

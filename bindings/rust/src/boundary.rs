@@ -156,6 +156,18 @@ mod raw {
             flag: *mut u32,
             flag_count: usize,
         ) -> u32;
+        pub fn jonquilsaw_badge_lay(
+            width: u32,
+            height: u32,
+            layout: u32,
+            pixels: *mut u8,
+            pixels_count: usize,
+            badge_width: u32,
+            badge_height: u32,
+            badge_layout: u32,
+            badge: *const u8,
+            badge_count: usize,
+        ) -> u32;
         pub fn jonquilsaw_scaled(width: u32, height: u32, target_width: u32, target_height: u32, size: *mut u32, size_count: usize) -> u32;
         pub fn jonquilsaw_read_pam_header(input: *const u8, input_count: usize, answer: *mut u32, answer_count: usize) -> u32;
         pub fn jonquilsaw_pam_unfinished(input: *const u8, input_count: usize, flag: *mut u32, flag_count: usize) -> u32;
@@ -381,6 +393,25 @@ pub fn apply_alpha_plane(size: [u32; 2], layout: u32, pixels: &mut [u8], plane: 
         )
     };
     answered(number).map(|()| flag[0] != 0)
+}
+
+pub fn badge_lay(size: [u32; 2], layout: u32, pixels: &mut [u8], badge_size: [u32; 2], badge_layout: u32, badge: &[u8]) -> Result<(), u32> {
+    // SAFETY: `pixels` is an exclusive borrow and `badge` a shared one, so both are live, aligned and apart, each with its own length.
+    let number = unsafe {
+        raw::jonquilsaw_badge_lay(
+            size[0],
+            size[1],
+            layout,
+            pixels.as_mut_ptr(),
+            pixels.len(),
+            badge_size[0],
+            badge_size[1],
+            badge_layout,
+            badge.as_ptr(),
+            badge.len(),
+        )
+    };
+    answered(number)
 }
 
 pub fn scaled(size: [u32; 2], target: [u32; 2]) -> Result<[u32; 2], u32> {

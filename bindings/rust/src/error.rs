@@ -109,12 +109,23 @@ pub enum Error {
         /// How many there are.
         jobs: usize,
     },
+    /// A badge that is not of its background's size.
+    UnequalSizes {
+        /// The size of the background.
+        background: Dimensions,
+        /// The size of the badge.
+        badge: Dimensions,
+    },
+    /// A background for a badge with an alpha byte other than 255.
+    BackgroundNotOpaque,
 }
 
 /// What a call was given, as far as an error names it: the length that fits and the one there was. A call that takes no such thing leaves it out.
 #[derive(Clone, Copy, Default)]
 pub(crate) struct Given {
     pub window: Option<(Rect, Dimensions)>,
+    /// The sizes of a background and of a badge.
+    pub sizes: Option<(Dimensions, Dimensions)>,
     pub lanes: u32,
     pub jobs: usize,
     pub pixels: (usize, usize),
@@ -123,7 +134,7 @@ pub(crate) struct Given {
 }
 
 impl Error {
-    /// The library's number, 1 to 14.
+    /// The library's number, 1 to 16.
     #[must_use]
     pub const fn number(self) -> u32 {
         match self {
@@ -141,6 +152,8 @@ impl Error {
             Self::PamUnsupported => 12,
             Self::InvalidGroup => 13,
             Self::GroupTooLarge { .. } => 14,
+            Self::UnequalSizes { .. } => 15,
+            Self::BackgroundNotOpaque => 16,
         }
     }
 
@@ -164,6 +177,11 @@ impl Error {
             12 => Self::PamUnsupported,
             13 => Self::InvalidGroup,
             14 => Self::GroupTooLarge { jobs: given.jobs },
+            15 => match given.sizes {
+                Some((background, badge)) if background != badge => Self::UnequalSizes { background, badge },
+                _ => unreachable!("the library answered with number {number} for sizes that are equal"),
+            },
+            16 => Self::BackgroundNotOpaque,
             // 100: a layout that is none or too short an answer, which the boundary's types leave no room for.
             _ => unreachable!("the library answered with number {number}"),
         }
@@ -189,6 +207,15 @@ impl fmt::Display for Error {
             Self::PamUnsupported => f.write_str("the PAM picture is not of DEPTH 4, MAXVAL 255 and TUPLTYPE RGB_ALPHA"),
             Self::InvalidGroup => f.write_str("the group has no jobs, or none of this number, or jobs whose sources are not alike"),
             Self::GroupTooLarge { jobs } => write!(f, "there are {jobs} jobs: a group has 1 to {GROUP_LIMIT}"),
+            Self::UnequalSizes { background, badge } => write!(
+                f,
+                "the badge is {} by {} and the background {} by {}: they have to be of one size",
+                badge.width(),
+                badge.height(),
+                background.width(),
+                background.height()
+            ),
+            Self::BackgroundNotOpaque => f.write_str("the background is not opaque: a badge is laid on an opaque one only"),
         }
     }
 }
@@ -216,12 +243,13 @@ mod tests {
     use super::*;
 
     fn given() -> Given {
-        Given { window: None, lanes: 5, jobs: GROUP_LIMIT + 1, pixels: (8, 7), out: (4, 5), work: (16, 3) }
+        let sizes = Some((Dimensions::new(5, 4).unwrap(), Dimensions::new(5, 3).unwrap()));
+        Given { window: None, sizes, lanes: 5, jobs: GROUP_LIMIT + 1, pixels: (8, 7), out: (4, 5), work: (16, 3) }
     }
 
     #[test]
     fn variants_are_the_numbers() {
-        for number in 3..=14 {
+        for number in 3..=16 {
             assert_eq!(Error::of(number, given()).number(), number);
         }
         let size = Dimensions::new(5, 4).unwrap();
@@ -244,6 +272,13 @@ mod tests {
     }
 
     #[test]
+    #[should_panic(expected = "number 15 for sizes that are equal")]
+    fn sizes_that_are_equal_are_no_error() {
+        let size = Dimensions::new(5, 4).unwrap();
+        let _ = Error::of(15, Given { sizes: Some((size, size)), ..given() });
+    }
+
+    #[test]
     fn messages_name_the_side_and_the_value() {
         let size = Dimensions::new(5, 4).unwrap();
         for (why, said) in [
@@ -263,6 +298,8 @@ mod tests {
             (Error::of(12, given()), "the PAM picture is not of DEPTH 4, MAXVAL 255 and TUPLTYPE RGB_ALPHA"),
             (Error::of(13, given()), "the group has no jobs, or none of this number, or jobs whose sources are not alike"),
             (Error::of(14, given()), &format!("there are {} jobs: a group has 1 to {GROUP_LIMIT}", GROUP_LIMIT + 1)),
+            (Error::of(15, given()), "the badge is 5 by 3 and the background 5 by 4: they have to be of one size"),
+            (Error::of(16, given()), "the background is not opaque: a badge is laid on an opaque one only"),
         ] {
             assert_eq!(why.to_string(), said);
         }
@@ -281,6 +318,8 @@ mod tests {
             (12, ErrorKind::InvalidData),
             (13, ErrorKind::InvalidInput),
             (14, ErrorKind::InvalidInput),
+            (15, ErrorKind::InvalidInput),
+            (16, ErrorKind::InvalidInput),
         ] {
             let why = io::Error::from(Error::of(number, given()));
             assert_eq!(why.kind(), kind);

@@ -292,6 +292,33 @@ impl Image {
         Ok(())
     }
 
+    /// Lays a badge of the same size on this picture, which has to be opaque and stays so: [`lay_badge`] says how. The badge may have another layout; this
+    /// picture keeps its own.
+    ///
+    /// # Errors
+    ///
+    /// [`Error::UnequalSizes`], then [`Error::BackgroundNotOpaque`]; the picture stays as it was. An opaque picture can come out of [`resize`](Self::resize) with
+    /// an alpha of 254 here and there: [`apply_alpha_plane`](Self::apply_alpha_plane) with 255 for each pixel makes it opaque.
+    ///
+    /// ```
+    /// use jonquilsaw::{Dimensions, Error, Image, PixelLayout};
+    ///
+    /// let size = Dimensions::new(2, 1)?;
+    /// let mut picture = Image::new(size, PixelLayout::Bgra8, vec![30, 20, 10, 255, 60, 50, 40, 255])?;
+    /// let badge = Image::new(size, PixelLayout::Argb8, vec![255, 1, 2, 3, 0, 7, 8, 9])?;
+    /// picture.lay_badge(&badge)?;
+    /// assert_eq!(picture.as_bytes(), [3, 2, 1, 255, 60, 50, 40, 255]); // the badge, then the picture, where the badge's alpha is 0
+    /// assert!(!picture.has_alpha());
+    ///
+    /// let mut other_way = badge;
+    /// assert_eq!(other_way.lay_badge(&picture), Err(Error::BackgroundNotOpaque));
+    /// # Ok::<(), Error>(())
+    /// ```
+    pub fn lay_badge<'a>(&mut self, badge: impl Into<ImageRef<'a>>) -> Result<()> {
+        // Laid on or refused, the flag is what it was: a picture that takes a badge is opaque before and after.
+        lay_badge(self.dims, self.layout, &mut self.pixels, badge)
+    }
+
     /// A copy of the window `rect`, with its alpha flag found anew.
     ///
     /// # Errors
@@ -364,12 +391,45 @@ pub fn apply_alpha_plane(dims: Dimensions, layout: PixelLayout, pixels: &mut [u8
         .map_err(|number| Error::of(number, Given { pixels: given, ..Given::default() }))
 }
 
+/// Lays a badge on a lent picture of the same size, the background, which has to be opaque and stays so. Where the badge's alpha is 0 the background stays, where
+/// it is 255 the badge replaces it, and between those each colour is the badge's matted by its alpha plus the background's matted by 255 less that alpha. The
+/// badge may have another layout; the background keeps its own.
+///
+/// # Errors
+///
+/// [`Error::PixelBufferMismatch`] if `pixels` isn't 4 × width × height bytes, [`Error::UnequalSizes`], [`Error::BackgroundNotOpaque`], in this order; the
+/// background stays as it was.
+///
+/// ```
+/// use jonquilsaw::{Dimensions, ImageRef, PixelLayout, lay_badge};
+///
+/// let size = Dimensions::new(3, 1)?;
+/// let mut pixels = [100, 0, 255, 255, 100, 0, 255, 255, 100, 0, 255, 255];
+/// let badge = [200, 255, 0, 0, 200, 255, 0, 128, 200, 255, 0, 255];
+/// lay_badge(size, PixelLayout::Rgba8, &mut pixels, ImageRef::new(size, PixelLayout::Rgba8, &badge)?)?;
+/// assert_eq!(pixels, [100, 0, 255, 255, 150, 128, 127, 255, 200, 255, 0, 255]);
+/// # Ok::<(), jonquilsaw::Error>(())
+/// ```
+pub fn lay_badge<'a>(dims: Dimensions, layout: PixelLayout, pixels: &mut [u8], badge: impl Into<ImageRef<'a>>) -> Result<()> {
+    let badge = badge.into();
+    let given = Given { pixels: (dims.byte_len(), pixels.len()), sizes: Some((dims, badge.dims)), ..Given::default() };
+    boundary::badge_lay(dims.words(), layout.word(), pixels, badge.dims.words(), badge.layout.word(), badge.pixels)
+        .map_err(|number| Error::of(number, given))
+}
+
 /// A borrowed picture: size, layout and pixels. Its results go to buffers that the caller lends, so nothing is allocated.
 #[derive(Clone, Copy, Debug)]
 pub struct ImageRef<'a> {
     dims: Dimensions,
     layout: PixelLayout,
     pixels: &'a [u8],
+}
+
+#[cfg(feature = "std")]
+impl<'a> From<&'a Image> for ImageRef<'a> {
+    fn from(image: &'a Image) -> Self {
+        image.as_image_ref()
+    }
 }
 
 impl<'a> ImageRef<'a> {

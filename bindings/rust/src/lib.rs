@@ -7,6 +7,7 @@
 //! - [`GroupPreview`] makes several previews of one source in one pass and hands out rows with the job that they belong to; [`GroupWriter`] writes them to a sink
 //!   each.
 //! - [`Image`] and [`ImageRef`] hold whole pictures: [`Image::crop`], [`Image::resize`], [`Image::apply_alpha_plane`], with webpkit's names.
+//! - [`Image::lay_badge`] and [`lay_badge`] lay a translucent picture on an opaque one of the same size.
 //! - [`Job`] is the library's own job over lent buffers: whole rows in by [`Job::offer`], a row out by [`Job::take`], no heap. [`Group`] is several of them over the
 //!   same source, each made by a [`Plan`].
 //! - [`Preview::plane`] and [`Job::start_plane`] scale a plane of 1 to 4 lanes; [`Preview::planes`] and [`Planes`] scale luma and both chroma planes of a
@@ -15,7 +16,7 @@
 //! - [`Dimensions::scaled`] derives a target size from one side; [`Dimensions::chroma`] halves both.
 //!
 //! Without the feature `std`, which is on by default, the crate is `no_std` and uses no heap: [`Job`], [`Group`], [`Planes`], [`ImageRef`],
-//! [`apply_alpha_plane`], [`pam`], [`Dimensions`], [`Rect`] and [`Error`] are there.
+//! [`apply_alpha_plane`], [`lay_badge`], [`pam`], [`Dimensions`], [`Rect`] and [`Error`] are there.
 //!
 //! Rows stand one after another without gaps. A picture's pixels are 4 bytes each in a [`PixelLayout`]'s order, and their colours are not premultiplied by
 //! alpha. A plane's pixels are 1 to 4 lanes, a byte each, side by side, which are scaled as they are.
@@ -62,7 +63,7 @@ pub use group::{GROUP_LIMIT, Group, Plan};
 pub use group_preview::{GroupPreview, GroupWriter};
 #[cfg(feature = "std")]
 pub use image::Image;
-pub use image::{Dimensions, ImageRef, MAX_DIMENSION, MAX_LANES, PixelLayout, apply_alpha_plane};
+pub use image::{Dimensions, ImageRef, MAX_DIMENSION, MAX_LANES, PixelLayout, apply_alpha_plane, lay_badge};
 pub use job::{Job, Kind};
 pub use planes::Planes;
 #[cfg(feature = "std")]

@@ -4,13 +4,13 @@ ghost use Prim.Native.Nat.{_<_, min};
 ghost use Rattle.arithmetic.specs.Matte.{matteFactor, factorOf, scaleColour, cutColour, multArgb, restoreFactors, restoredBy};
 
 // One colour matted, for every alpha and with no case: libwebp's factor 65793 × alpha over 2^24 is alpha / 255 rounded to the nearest.
-// Both factors of the product fit 16 bits, which lets the compiler put several colours into one vector.
+// All of it fits 16 bits, which lets the compiler put eight colours into one vector.
 // Rules out: a product rounded down; a quotient by 256 in place of 255.
 pub fn matte(colour: u8, alpha: u8) -> u32
     ensures { λ r. ⌜ r ≡ scaleColour colour (matteFactor alpha) ⌝ }
 {
-    let t = colour as u32 * alpha as u32 + 128;
-    (t + t / 256) / 256
+    let t = colour as u16 * alpha as u16 + 128;
+    ((t + t / 256) / 256) as u32
 }
 
 // The factors to restore, as they are lent to `restore`. A table is built anew at each use: a row's pixels share one.

@@ -5,22 +5,11 @@ use capi_words::BOUNDARY;
 use capi_words::LAYOUTS;
 use capi_words::flag_word;
 use capi_words::layout_of;
+use capi_words::number_of;
 use capi_words::store;
-use pixels::Checked;
 ghost use mathlib.Core.Path.{_≡_};
 ghost use lib.ListN.{length};
-ghost use Rattle.pixels.specs.Refusals.{checkedNumber};
 ghost use Rattle.capi_packing.specs.Packing.{numberOfPack, outAfterPack, numberOfUnpack, argbAfterUnpack, numberOfArgbHasAlpha, flagAfterArgbHasAlpha};
-
-// The number of an answer that has nothing else to tell.
-fn number_of(answer: Checked) -> u32
-    ensures { λ r. ⌜ r ≡ checkedNumber answer ⌝ }
-{
-    match answer {
-        Checked::Refused(why) => why.number(),
-        Checked::Fit => 0,
-    }
-}
 
 // ---- the exported functions
 

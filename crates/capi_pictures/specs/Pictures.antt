@@ -1,16 +1,18 @@
 -- What the calls beside the job tell and leave in every lent buffer, of their arguments in C's order; of a buffer that is only measured the argument is its
 -- length. A number other than 0 leaves every buffer as it was. Assumes nothing.
 use Prim.Native.Nat.{ℕ, _*_}
+use mathlib.Core.Bool.{not, _||_}
 use mathlib.Core.List.{List}
 use lib.Dec.{ltb}
 use lib.ListN.{length}
 use Rattle.pixels.specs.Refusals.{bufferIf}
 use Rattle.pixels.specs.Sizes.{sizeOf, rectOf, scaledNumber, scaledSize}
 use Rattle.pixels_alpha.specs.Alpha.{hasAlpha, pictureNumber, withAlpha, alphaNumber}
+use Rattle.pixels_badge.specs.Badge.{laid, badgeNumber}
 use Rattle.pixels_crop.specs.Crop.{cropped, cropNumber}
 use Rattle.job_claim.specs.Rows.{resized, resizedFlag}
 use Rattle.job_resize.specs.Resize.{resizeNumber, resizedWork}
-use Rattle.capi_words.specs.Words.{wordLayout}
+use Rattle.capi_words.specs.Words.{wordLayout, isLayout}
 use Rattle.capi_words.specs.Boundary.{boundaryFirst, misused, storedFlag, storedSize}
 
 -- the boundary's number of a call that takes a layout word and answers by a flag in one lent word, then the library's number n
@@ -80,6 +82,16 @@ flagAfterPlane w h layout pixels plane flag =
     bufferIf (numberOfPlane w h layout (length pixels) (length plane) (length flag))
     (storedFlag (hasAlpha (wordLayout layout) (withAlpha (wordLayout layout) pixels plane) (w * h)) flag)
     flag
+
+-- ---- jonquilsaw_badge_lay: a background w by h, its layout word and its pixels, a badge bw by bh, its layout word and its pixels
+unfoldable pub numberOfBadge : ℕ → ℕ → ℕ → List ℕ → ℕ → ℕ → ℕ → ℕ → ℕ
+numberOfBadge w h layout pixels bw bh from badge =
+    boundaryFirst (not (isLayout layout) || not (isLayout from)) (badgeNumber (sizeOf w h) (wordLayout layout) pixels (sizeOf bw bh) badge)
+
+-- the badge laid on the background
+unfoldable pub pixelsAfterBadge : ℕ → ℕ → ℕ → List ℕ → ℕ → ℕ → ℕ → List ℕ → List ℕ
+pixelsAfterBadge w h layout pixels bw bh from badge =
+    bufferIf (numberOfBadge w h layout pixels bw bh from (length badge)) (laid (wordLayout layout) pixels (wordLayout from) badge) pixels
 
 -- ---- jonquilsaw_scaled: a picture w by h, a target tw by th, two words for the size
 unfoldable pub numberOfScaled : ℕ → ℕ → ℕ → ℕ → ℕ → ℕ

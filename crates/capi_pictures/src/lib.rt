@@ -2,9 +2,11 @@
 // Every function answers for all arguments: 0 where the call was accepted, SCOPE's number where it was refused, and BOUNDARY for what only
 // this boundary can be asked, tested first.
 use capi_words::BOUNDARY;
+use capi_words::LAYOUTS;
 use capi_words::flag_word;
 use capi_words::layout_of;
 use capi_words::misused;
+use capi_words::number_of;
 use capi_words::store;
 use pixels::Dimensions;
 use pixels::Flagged;
@@ -14,7 +16,7 @@ ghost use mathlib.Core.Path.{_≡_};
 ghost use lib.ListN.{length};
 ghost use Rattle.pixels.specs.Refusals.{bufferIf, flaggedNumber, flaggedFlag};
 ghost use Rattle.capi_words.specs.Boundary.{storedFlag};
-ghost use Rattle.capi_pictures.specs.Pictures.{numberOfHasAlpha, flagAfterHasAlpha, numberOfCrop, outAfterCrop, flagAfterCrop, numberOfResize, outAfterResize, workAfterResize, flagAfterResize, numberOfPlane, pixelsAfterPlane, flagAfterPlane, numberOfScaled, sizeAfterScaled};
+ghost use Rattle.capi_pictures.specs.Pictures.{numberOfHasAlpha, flagAfterHasAlpha, numberOfCrop, outAfterCrop, flagAfterCrop, numberOfResize, outAfterResize, workAfterResize, flagAfterResize, numberOfPlane, pixelsAfterPlane, flagAfterPlane, numberOfBadge, pixelsAfterBadge, numberOfScaled, sizeAfterScaled};
 
 // The number of an answer by a flag, which is stored in one lent word.
 fn store_flag(answer: Flagged, flag: &mut [u32]) -> u32
@@ -151,6 +153,43 @@ pub extern "C" fn jonquilsaw_apply_alpha_plane(
         plane,
     );
     store_flag(answer, flag)
+}
+
+// Lays a badge on an opaque background of the same size.
+// Rules out: the badge's layout word not tested; the background's layout read for the badge.
+#[no_mangle]
+pub extern "C" fn jonquilsaw_badge_lay(
+    width: u32,
+    height: u32,
+    layout: u32,
+    pixels: &mut [u8],
+    badge_width: u32,
+    badge_height: u32,
+    badge_layout: u32,
+    badge: &[u8],
+) -> u32
+    ensures number { λ r. ⌜ r ≡ numberOfBadge width height layout (now (pixels .entry)) «badge_width» «badge_height» «badge_layout» (length (now (badge .entry))) ⌝ }
+    ensures pixels { λ _. ⌜ now (pixels .exit) ≡ pixelsAfterBadge width height layout (now (pixels .entry)) «badge_width» «badge_height» «badge_layout» (now (badge .entry)) ⌝ }
+{
+    if layout >= LAYOUTS {
+        return BOUNDARY;
+    }
+    if badge_layout >= LAYOUTS {
+        return BOUNDARY;
+    }
+    let badge_size = Dimensions {
+        width: badge_width,
+        height: badge_height,
+    };
+    let answer = pixels_badge::lay_badge(
+        Dimensions { width, height },
+        layout_of(layout),
+        pixels,
+        badge_size,
+        layout_of(badge_layout),
+        badge,
+    );
+    number_of(answer)
 }
 
 // The size that a picture scales to, width and height in two lent words; a target side of 0 is derived from the other.

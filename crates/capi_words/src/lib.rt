@@ -1,7 +1,9 @@
 // The words that the library for C lends and hands over: layouts and flags as numbers, answers stored in lent words; and the boundary's own number and test.
 // Every function answers for all arguments.
+use pixels::Checked;
 use pixels_layout::PixelLayout;
 ghost use mathlib.Core.Path.{_≡_};
+ghost use Rattle.pixels.specs.Refusals.{checkedNumber};
 ghost use Rattle.capi_words.specs.Words.{wordLayout, flagWord, stored};
 ghost use Rattle.capi_words.specs.Boundary.{misused};
 
@@ -33,6 +35,16 @@ pub fn flag_word(flag: bool) -> u32
         return 1;
     }
     0
+}
+
+// The number of an answer that has nothing else to tell. Rules out: 0 told although the call was refused; 1 told although it went through.
+pub fn number_of(answer: Checked) -> u32
+    ensures { λ r. ⌜ r ≡ checkedNumber answer ⌝ }
+{
+    match answer {
+        Checked::Refused(why) => why.number(),
+        Checked::Fit => 0,
+    }
 }
 
 // Stores an answer in lent words, from the first on; fewer words than it has stay as they were.

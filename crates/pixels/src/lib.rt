@@ -58,6 +58,10 @@ pub enum Refusal {
     InvalidGroup,
     // a group of more jobs than the limit
     GroupTooLarge,
+    // a badge of another size than its background
+    UnequalSizes,
+    // a background with an alpha byte other than 255
+    BackgroundNotOpaque,
 }
 
 // Whether what was asked may be done, or why not.

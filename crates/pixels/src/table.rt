@@ -23,6 +23,8 @@ impl Refusal {
             Refusal::PamUnsupported => 12,
             Refusal::InvalidGroup => 13,
             Refusal::GroupTooLarge => 14,
+            Refusal::UnequalSizes => 15,
+            Refusal::BackgroundNotOpaque => 16,
         }
     }
 }

@@ -1,4 +1,4 @@
-// The previews that --also asks for beside the main one: their words, their files, and one pass over the input for the group of all.
+// The options' words; and the previews that --also asks for beside the main one: their files, and one pass over the input for the group of all.
 use crate::Form;
 use crate::Out;
 use crate::close;
@@ -6,7 +6,7 @@ use crate::is_word;
 use crate::open_to;
 use crate::picture;
 use crate::preview_size;
-use crate::read_row;
+use crate::read_whole;
 use crate::say;
 use crate::say_refusal;
 use crate::say_too_short;
@@ -22,6 +22,7 @@ use group_take::take_group;
 use job_rules::Plan;
 use job_rules::row_bytes;
 use libc::STDERR_FILENO;
+use libc::STDIN_FILENO;
 use pam_parts::head_of;
 use pam_parts::tail_of;
 use pixels::Checked;
@@ -37,17 +38,24 @@ const WORK: usize = GROUP_LIMIT * 131072;
 
 // ---- the words
 
-// How many words there are, the program's own name among them, and how many before the first --also.
+// How many words there are, the program's own name among them, and how many before the first option.
 pub struct Words {
     pub count: usize,
     pub before: usize,
+}
+
+fn is_option(i: usize) -> bool {
+    if is_word(i, b"--also") {
+        return true;
+    }
+    is_word(i, b"--badge")
 }
 
 pub(crate) fn words_of() -> Words {
     let count = os::arg_count();
     let mut i = 1usize;
     while i < count {
-        if is_word(i, b"--also") {
+        if is_option(i) {
             return Words { count, before: i };
         }
         i += 1;
@@ -158,25 +166,33 @@ fn say_too_many(count: usize) {
     say(b" are made in one pass\n");
 }
 
-// The previews that are asked for, the main one first. Not going where a word is wrong, which was said.
+// The previews that are asked for, the main one first, and the argument that names the badge's file; 0 where there is no badge. Not going where a word is wrong,
+// which was said.
 pub struct Asked {
     pub going: bool,
+    pub badge: usize,
     pub count: u32,
     pub targets: [Target; GROUP_LIMIT],
 }
 
-// Those of all words; the main one has these sides.
-pub(crate) fn ask(words: Words, sides: Dimensions) -> Asked {
-    let main = Target {
-        right: true,
-        sides,
-        word: 0,
-    };
-    let mut asked = Asked {
-        going: false,
-        count: 1,
-        targets: [main; GROUP_LIMIT],
-    };
+// --badge and one word are all that follows the numbers.
+fn ask_badge(first: Asked, words: Words) -> Asked {
+    let mut asked = first;
+    if words.before < words.count {
+        let left = words.count - words.before;
+        if left == 2 {
+            asked.badge = words.before + 1;
+            asked.going = true;
+            return asked;
+        }
+    }
+    say_usage();
+    asked
+}
+
+// One --also after another.
+fn ask_also(first: Asked, words: Words) -> Asked {
+    let mut asked = first;
     let mut i = words.before;
     let mut k = 1usize;
     while i < words.count {
@@ -202,6 +218,25 @@ pub(crate) fn ask(words: Words, sides: Dimensions) -> Asked {
     asked
 }
 
+// Those of all words; the main one has these sides.
+pub(crate) fn ask(words: Words, sides: Dimensions) -> Asked {
+    let main = Target {
+        right: true,
+        sides,
+        word: 0,
+    };
+    let first = Asked {
+        going: false,
+        badge: 0,
+        count: 1,
+        targets: [main; GROUP_LIMIT],
+    };
+    if is_word(words.before, b"--badge") {
+        return ask_badge(first, words);
+    }
+    ask_also(first, words)
+}
+
 // ---- the files
 
 // What stands after the first = of a word.
@@ -210,7 +245,7 @@ fn file_of(text: &[u8]) -> &[u8] {
     tail_of(text, end)
 }
 
-fn say_failed(file: &[u8]) {
+pub(crate) fn say_failed(file: &[u8]) {
     say(b"preview: ");
     os::fail(file);
 }
@@ -328,8 +363,8 @@ fn take_rows(first: GroupRun, k: u32, to: Out, out: &mut [u8], work: &mut [u32])
     run
 }
 
-// The n bytes of a row, where the buffer has them; else none, which every call refuses.
-fn part_of(n: usize, buffer: &[u8]) -> usize
+// The n bytes of a row or of a picture, where the buffer has them; else none, which every call refuses.
+pub(crate) fn part_of(n: usize, buffer: &[u8]) -> usize
     ensures { λ r. ⌜ Counts r (now (buffer .entry)) ⌝ }
 {
     if buffer.len() < n {
@@ -371,7 +406,7 @@ fn take_all(first: GroupRun, files: Outs, out: &mut [u8], work: &mut [u32]) -> G
 
 // Reads a row and offers it.
 fn feed(group: Group, row: &mut [u8], work: &mut [u32]) -> GroupRun {
-    if !read_row(row) {
+    if !read_whole(STDIN_FILENO, row) {
         let first = group.jobs[0];
         say_too_short(first.accepted);
         return GroupRun {

@@ -1,4 +1,4 @@
-// The header of a PAM picture: read from standard input byte by byte, so that no byte of a pixel is read with it, and written to where a preview goes.
+// The header of a PAM picture: read byte by byte, so that no byte of a pixel is read with it, and written to where a preview goes.
 use crate::Out;
 use crate::say;
 use crate::say_refusal;
@@ -24,6 +24,19 @@ pub enum Head {
     Stopped,
 }
 
+// What a header is read from: standard input, or the descriptor of the badge's file.
+pub enum Source {
+    Input,
+    Badge(i32),
+}
+
+fn descriptor(from: Source) -> i32 {
+    match from {
+        Source::Input => STDIN_FILENO,
+        Source::Badge(fd) => fd,
+    }
+}
+
 // ---- what is said
 
 // Whether the first line is P7, or, cut off, a beginning of that.
@@ -31,48 +44,87 @@ fn opens(text: &[u8]) -> bool {
     same(head_of(text, 3), head_of(b"P7\n", text.len()))
 }
 
-// `line`, where the first line is P7.
-fn say_of_pam(text: &[u8], line: &[u8]) {
+// The line for what is read.
+fn say_of(from: Source, input: &[u8], badge: &[u8]) {
+    match from {
+        Source::Input => say(input),
+        Source::Badge(_) => say(badge),
+    }
+}
+
+// The same, where the first line is P7.
+fn say_of_pam(from: Source, text: &[u8], input: &[u8], badge: &[u8]) {
     if opens(text) {
-        say(line);
+        say_of(from, input, badge);
         return;
     }
-    say(
+    say_of(
+        from,
         b"preview: the input is not a PAM picture: its first line is not P7 (pngtopam -alphapam makes one of a PNG; --raw takes rows without a header)\n",
+        b"preview: the badge is not a PAM picture: its first line is not P7\n",
     );
 }
 
-// Where the input ends.
-fn say_cut(text: &[u8]) {
+// Where what is read ends.
+fn say_cut(from: Source, text: &[u8]) {
     if text.len() == 0 {
-        say(b"preview: the input is empty: there is no PAM picture\n");
+        say_of(
+            from,
+            b"preview: the input is empty: there is no PAM picture\n",
+            b"preview: the badge is empty: there is no PAM picture\n",
+        );
         return;
     }
-    say_of_pam(text, b"preview: the input ends inside the PAM header\n");
+    say_of_pam(
+        from,
+        text,
+        b"preview: the input ends inside the PAM header\n",
+        b"preview: the badge ends inside the PAM header\n",
+    );
 }
 
-fn say_refused(text: &[u8], why: Refusal) {
+fn say_malformed(from: Source, text: &[u8]) {
+    say_of_pam(
+        from,
+        text,
+        b"preview: the PAM header is outside the form: a line is wrong, unknown, missing or given twice\n",
+        b"preview: the PAM header of the badge is outside the form: a line is wrong, unknown, missing or given twice\n",
+    );
+}
+
+fn say_unsupported(from: Source) {
+    say_of(
+        from,
+        b"preview: the PAM picture is of another kind: only DEPTH 4, MAXVAL 255, TUPLTYPE RGB_ALPHA is taken, as pngtopam -alphapam writes it of a colour PNG (16 bits: pamdepth 255)\n",
+        b"preview: the PAM picture of the badge is of another kind: only DEPTH 4, MAXVAL 255, TUPLTYPE RGB_ALPHA is taken\n",
+    );
+}
+
+// A header that is right but for its sides.
+fn say_side(from: Source, why: Refusal) {
+    match from {
+        Source::Input => say_refusal(why),
+        Source::Badge(_) => say(b"preview: a side of the badge is 0 or above 16384\n"),
+    }
+}
+
+fn say_refused(from: Source, text: &[u8], why: Refusal) {
     match why {
-        Refusal::PamMalformed => say_of_pam(
-            text,
-            b"preview: the PAM header is outside the form: a line is wrong, unknown, missing or given twice\n",
-        ),
-        Refusal::PamUnsupported => say(
-            b"preview: the PAM picture is of another kind: only DEPTH 4, MAXVAL 255, TUPLTYPE RGB_ALPHA is taken, as pngtopam -alphapam writes it of a colour PNG (16 bits: pamdepth 255)\n",
-        ),
-        _ => say_refusal(why),
+        Refusal::PamMalformed => say_malformed(from, text),
+        Refusal::PamUnsupported => say_unsupported(from),
+        _ => say_side(from, why),
     }
 }
 
 // ---- reading
 
 // What the bytes so far say.
-fn judge(text: &[u8]) -> Head {
+fn judge(from: Source, text: &[u8]) -> Head {
     let said = pam_header(text);
     match said {
         PamHeader::Picture { size, start: _ } => Head::Size(size),
         PamHeader::Refused(why) => {
-            say_refused(text, why);
+            say_refused(from, text, why);
             Head::Stopped
         }
         PamHeader::Unfinished => Head::More,
@@ -80,20 +132,20 @@ fn judge(text: &[u8]) -> Head {
 }
 
 // Reads the byte at place n; at the end of a line asks what the header says.
-fn read_byte(text: &mut [u8], n: usize) -> Head
+fn read_byte(from: Source, text: &mut [u8], n: usize) -> Head
     requires { ⌜ n < length (now text) ⌝ }
 {
     let mut byte = [0u8; 1];
-    let got = io::read_full(STDIN_FILENO, &mut byte);
+    let got = io::read_full(descriptor(from), &mut byte);
     if got == 0 {
-        say_cut(head_of(text, n));
+        say_cut(from, head_of(text, n));
         return Head::Stopped;
     }
     text[n] = byte[0];
     if byte[0] != 10 {
         return Head::More;
     }
-    judge(head_of(text, n + 1))
+    judge(from, head_of(text, n + 1))
 }
 
 fn is_more(head: Head) -> bool {
@@ -104,19 +156,21 @@ fn is_more(head: Head) -> bool {
 }
 
 // Reads a header of at most 4,096 bytes.
-pub(crate) fn read_header() -> Head {
+pub(crate) fn read_header(from: Source) -> Head {
     let mut text = [0u8; 4096];
     let mut n = 0usize;
     while n < 4096 {
-        let head = read_byte(&mut text, n);
+        let head = read_byte(from, &mut text, n);
         if !is_more(head) {
             return head;
         }
         n += 1;
     }
     say_of_pam(
+        from,
         &text,
         b"preview: the PAM header is longer than the 4096 bytes that are read\n",
+        b"preview: the PAM header of the badge is longer than the 4096 bytes that are read\n",
     );
     Head::Stopped
 }

@@ -1,8 +1,9 @@
-// preview [--raw WIDTH HEIGHT] TARGET_WIDTH TARGET_HEIGHT [X Y CROP_WIDTH CROP_HEIGHT] [--also WIDTHxHEIGHT=FILE]...
+// preview [--raw WIDTH HEIGHT] TARGET_WIDTH TARGET_HEIGHT [X Y CROP_WIDTH CROP_HEIGHT] [--badge FILE | --also WIDTHxHEIGHT=FILE...]
 // Reads a PAM picture from standard input and writes a PAM preview to standard output, its rows as they become ready, one row of each held at a time; with
 // --raw, raw RGBA rows of both. A target side of 0 is derived from the crop's size. Each --also writes another preview of the same crop to its file, in the same
-// pass. What goes wrong is said in one line on standard error.
+// pass. With --badge the preview is held whole, and goes out under the badge in the file. What goes wrong is said in one line on standard error.
 mod also;
+mod badge;
 mod header;
 
 use also::Words;
@@ -10,7 +11,10 @@ use also::also;
 use also::ask;
 use also::words_of;
 use also::write_file;
+use badge::badged;
+use badge::hold_row;
 use header::Head;
+use header::Source;
 use header::read_header;
 use header::write_header;
 use job::Job;
@@ -98,16 +102,16 @@ fn arguments(numbers: &mut [u32; 8], first: usize, count: usize) -> bool
 
 // ---- the input: all that knows its form
 
-// Reads the next row; false where the input does not have it whole.
-fn read_row(row: &mut [u8]) -> bool {
-    let n = io::read_full(STDIN_FILENO, row);
-    n == row.len()
+// Reads the bytes, the next row's or all of a badge; false where what is read does not have them whole.
+fn read_whole(fd: i32, bytes: &mut [u8]) -> bool {
+    let n = io::read_full(fd, bytes);
+    n == bytes.len()
 }
 
-// Whether the input has nothing more.
-fn input_ended() -> bool {
+// Whether there is nothing more to read.
+fn ended(fd: i32) -> bool {
     let mut more = [0u8; 1];
-    let n = io::read_full(STDIN_FILENO, &mut more);
+    let n = io::read_full(fd, &mut more);
     n == 0
 }
 
@@ -150,33 +154,45 @@ struct Run {
     going: bool,
 }
 
-// Takes the next row and writes it.
-fn take_row(job: Job, out: &mut [u8], work: &mut [u32]) -> Run {
-    let taken = job.take(out, work);
+// What a take leaves; a refusal is said.
+fn took(taken: Taken) -> Run {
     match taken {
-        Taken::Refused { why, job: same } => {
+        Taken::Refused { why, job } => {
             say_refusal(why);
-            Run {
-                job: same,
-                going: false,
-            }
+            Run { job, going: false }
         }
-        Taken::Wrote { job: next } => {
-            let going = write_out(out);
-            Run { job: next, going }
-        }
+        Taken::Wrote { job } => Run { job, going: true },
     }
 }
 
-// Takes and writes every row that is ready.
-fn take_ready(first: Run, out: &mut [u8], work: &mut [u32]) -> Run {
+// Takes the next row and writes it.
+fn write_row(job: Job, out: &mut [u8], work: &mut [u32]) -> Run {
+    let run = took(job.take(out, work));
+    if !run.going {
+        return run;
+    }
+    let next = run.job;
+    let going = write_out(out);
+    Run { job: next, going }
+}
+
+// Takes the next row. Where the preview is held, `out` has room for all of it; else for the row, which is written.
+fn take_row(job: Job, held: bool, out: &mut [u8], work: &mut [u32]) -> Run {
+    if held {
+        return hold_row(job, out, work);
+    }
+    write_row(job, out, work)
+}
+
+// Takes every row that is ready.
+fn take_ready(first: Run, held: bool, out: &mut [u8], work: &mut [u32]) -> Run {
     let mut run = first;
     let mut left = run.job.ready();
     while left > 0 {
         if !run.going {
             return run;
         }
-        run = take_row(run.job, out, work);
+        run = take_row(run.job, held, out, work);
         left -= 1;
     }
     run
@@ -190,7 +206,7 @@ fn say_too_short(rows: u32) {
 
 // Reads a row and offers it.
 fn feed_row(job: Job, row: &mut [u8], work: &mut [u32]) -> Run {
-    if !read_row(row) {
+    if !read_whole(STDIN_FILENO, row) {
         say_too_short(job.accepted);
         return Run { job, going: false };
     }
@@ -211,13 +227,13 @@ fn feed_row(job: Job, row: &mut [u8], work: &mut [u32]) -> Run {
 }
 
 // A row in, and the rows that it makes ready out.
-fn pass_row(job: Job, row: &mut [u8], out: &mut [u8], work: &mut [u32]) -> Run {
+fn pass_row(job: Job, held: bool, row: &mut [u8], out: &mut [u8], work: &mut [u32]) -> Run {
     let fed = feed_row(job, row, work);
-    take_ready(fed, out, work)
+    take_ready(fed, held, out, work)
 }
 
 // All of the source's rows, one after another; false where something stopped them.
-fn run_rows(fresh: Job, row: &mut [u8], out: &mut [u8], work: &mut [u32]) -> bool {
+fn run_rows(fresh: Job, held: bool, row: &mut [u8], out: &mut [u8], work: &mut [u32]) -> bool {
     let mut run = Run {
         job: fresh,
         going: true,
@@ -227,7 +243,7 @@ fn run_rows(fresh: Job, row: &mut [u8], out: &mut [u8], work: &mut [u32]) -> boo
         if !run.going {
             return false;
         }
-        run = pass_row(run.job, row, out, work);
+        run = pass_row(run.job, held, row, out, work);
         left -= 1;
     }
     run.going
@@ -252,17 +268,19 @@ fn run_job(job: Job, row: &mut [u8], out: &mut [u8], work: &mut [u32]) -> bool
 {
     let w = row_bytes(job.plan, job.plan.source.width);
     let m = row_bytes(job.plan, job.plan.target.width);
-    run_rows(job, &mut row[..w], &mut out[..m], work)
+    run_rows(job, false, &mut row[..w], &mut out[..m], work)
 }
 
-// After the last row: the input must have ended. What stopped the rows was said.
-fn close(whole: bool) {
+// After the last row: the input must have ended; false where it goes on, which is said. What stopped the rows was said.
+fn close(whole: bool) -> bool {
     if !whole {
-        return;
+        return false;
     }
-    if !input_ended() {
+    let over = ended(STDIN_FILENO);
+    if !over {
         say(b"preview: the input is too long: it goes on after the last row\n");
     }
+    over
 }
 
 // Writes the preview's header, where its form has one; false where something stopped it.
@@ -346,11 +364,11 @@ fn crop_of(source: Dimensions, cropped: bool, crop: Rect) -> Rect {
     Rect::new(0, 0, source.width, source.height)
 }
 
-// ---- the two forms. Each calls `preview` or `also` itself: a function that did it for both would take the stack of both for either.
+// ---- the two forms. Each calls `preview`, `badged` or `also` itself: a function that did it for both would take the stack of all for each.
 
 fn say_usage() {
     say(
-        b"usage: preview [--raw WIDTH HEIGHT] TARGET_WIDTH TARGET_HEIGHT [X Y CROP_WIDTH CROP_HEIGHT] [--also WIDTHxHEIGHT=FILE]...\n",
+        b"usage: preview [--raw WIDTH HEIGHT] TARGET_WIDTH TARGET_HEIGHT [X Y CROP_WIDTH CROP_HEIGHT] [--badge FILE | --also WIDTHxHEIGHT=FILE...]\n",
     );
 }
 
@@ -374,6 +392,10 @@ fn preview_raw(words: Words) {
         };
         let asked = ask(words, sides);
         if asked.going {
+            if asked.badge != 0 {
+                badged(Form::Raw, source, crop, sides, asked.badge);
+                return;
+            }
             if asked.count == 1 {
                 preview(Form::Raw, source, crop, sides);
                 return;
@@ -398,9 +420,13 @@ fn preview_pam(words: Words) {
         };
         let asked = ask(words, sides);
         if asked.going {
-            let head = read_header();
+            let head = read_header(Source::Input);
             if let Head::Size(source) = head {
                 let crop = crop_of(source, count == 7, Rect::new(n[2], n[3], n[4], n[5]));
+                if asked.badge != 0 {
+                    badged(Form::Pam, source, crop, sides, asked.badge);
+                    return;
+                }
                 if asked.count == 1 {
                     preview(Form::Pam, source, crop, sides);
                     return;

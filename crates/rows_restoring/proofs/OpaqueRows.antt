@@ -1,44 +1,20 @@
 -- Whether every pixel of a row is opaque, found by an and of their words: its high byte is 255 exactly if every alpha is. Assumes nothing.
-use Prim.Native.Nat.{ℕ, zero, suc, _+_, _*_, _/_, _^_, _≤_, _<_}
+use Prim.Native.Nat.{ℕ, _+_, _*_, _/_, _^_, _≤_, _<_}
 use mathlib.Core.Path.{_≡_, refl, ap, _∙_}
-use mathlib.Core.Bool.{Bool, false, not, _||_, or-true}
+use mathlib.Core.Bool.{Bool, not, _||_}
 use mathlib.Core.List.{List}
-use mathlib.Core.Logic.{⊎-elim}
 use native.Mathlib.Omega.{arith}
-use native.Mathlib.Nat.{eq-or-lt-of-le, le-of-suc-le-suc}
+use native.Mathlib.Nat.{le-of-suc-le-suc}
 use native.Mathlib.Numerals.{add-one}
-use lib.Bits.{bitAnd, and-shr, and-le-l, and-le-r}
+use lib.Bits.{bitAnd, and-shr, and-le-l}
 use lib.Dec.{eqb}
 use lib.ListN.{getD}
-use borrow.Author.Tests.{ne-eqb}
 use Rattle.arithmetic.specs.Matte.{pixelOf}
-use Rattle.pixels.proofs.Truths.{neither-true, same-of}
 use Rattle.pixels.specs.Sizes.{pixelLanes}
 use Rattle.pixels_layout.specs.Layout.{alphaLane}
 use Rattle.pixels_alpha.specs.Alpha.{someClear}
+use Rattle.pixels_alpha.proofs.Flags.{and-full}
 use Rattle.rows_restoring.specs.Inner.Restoring.{alphaIn, wordAt}
-
--- no alpha but 255
-pub clear-no : (a : ℕ → ℕ) (n : ℕ) → someClear a n ≡ false → (i : ℕ) → i < n → a i ≡ 255
-unfolding someClear
-clear-no a zero e i h = absurd (omega arith)
-clear-no a (suc n) e i h =
-    let both = neither-true (someClear a n) (not (eqb (a n) 255)) e in
-    let last : i ≡ n → a i ≡ 255 = λ q. ap a q ∙ same-of (a n) 255 (both .1) in
-    ⊎-elim last (clear-no a n (both .0) i) (eq-or-lt-of-le (le-of-suc-le-suc h))
-
--- two bytes and-ed are 255 exactly if both are
-and-full : (x y : ℕ) → x ≤ 255 → y ≤ 255 → not (eqb (bitAnd x y) 255) ≡ (not (eqb x 255) || not (eqb y 255))
-and-full x y hx hy = ⊎-elim (λ p. ⊎-elim (full p) right (eq-or-lt-of-le hy)) left (eq-or-lt-of-le hx)
-  where
-    full : x ≡ 255 → y ≡ 255 → not (eqb (bitAnd x y) 255) ≡ (not (eqb x 255) || not (eqb y 255))
-    full p q = rw (p, q)
-
-    left : x < 255 → not (eqb (bitAnd x y) 255) ≡ (not (eqb x 255) || not (eqb y 255))
-    left l = simp (ne-eqb (bitAnd x y) 255 (λ e. omega (arith, and-le-l x y)), ne-eqb x 255 (λ e. omega arith))
-
-    right : y < 255 → not (eqb (bitAnd x y) 255) ≡ (not (eqb x 255) || not (eqb y 255))
-    right l = simp (ne-eqb (bitAnd x y) 255 (λ e. omega (arith, and-le-r x y)), ne-eqb y 255 (λ e. omega arith), or-true)
 
 -- the words of j pixels and-ed
 pub record Anded (s : List ℕ) (all j : ℕ) : Type 0 where

@@ -19,9 +19,8 @@ use Rattle.pixels_layout.specs.Lanes.{restoredPixel, restoredPlace}
 use Rattle.pixels_alpha.specs.Alpha.{someClear, hasAlpha}
 use Rattle.pixels_layout.proofs.Tabled.{each-lane, place-lt, place-twice}
 use Rattle.pixels_layout.proofs.Packing.{packed-byte}
-use Rattle.pixels_alpha.proofs.Flags.{clear-cong}
+use Rattle.pixels_alpha.proofs.Flags.{clear-no, clear-cong}
 use Rattle.rows_restoring.specs.Inner.Restoring.{alphaIn, restoredAt, putColours, wordAt, putLanes, orderedByte, orderedWord}
-use Rattle.rows_restoring.proofs.OpaqueRows.{clear-no}
 use Rattle.arithmetic.proofs.Stores.{Stored, none-stored, store, store-four, keep, place, ahead}
 
 -- ---- the scaler's own order

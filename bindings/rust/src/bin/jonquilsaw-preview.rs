@@ -1,9 +1,11 @@
 //! `jonquilsaw-preview`: the command to deploy. It reads and writes what the repository's `./preview` does, with true statuses.
 //!
 //! A PAM picture, or with `--raw` rows without a header, comes in on standard input, and preview rows go out as they become ready. With `--also` further previews
-//! are made in the same pass and go to files. What goes wrong is said in one line on standard error.
+//! are made in the same pass and go to files; with `--badge` the preview is held until a badge is laid on it. What goes wrong is said in one line on standard
+//! error.
 
-use jonquilsaw::{Dimensions, Error, GROUP_LIMIT, GroupPreview, PixelLayout, Plan, Rect, pam};
+use jonquilsaw::{Dimensions, Error, GROUP_LIMIT, GroupPreview, ImageRef, PixelLayout, Plan, Rect, lay_badge, pam};
+use std::cmp::Ordering;
 use std::ffi::{OsStr, OsString};
 use std::fs::File;
 use std::io::{self, Read, Write};
@@ -11,7 +13,8 @@ use std::os::fd::AsFd;
 use std::os::unix::ffi::OsStrExt;
 use std::process::ExitCode;
 
-const USAGE: &str = "usage: preview [--raw WIDTH HEIGHT] TARGET_WIDTH TARGET_HEIGHT [X Y CROP_WIDTH CROP_HEIGHT] [--also WIDTHxHEIGHT=FILE]...";
+const USAGE: &str =
+    "usage: preview [--raw WIDTH HEIGHT] TARGET_WIDTH TARGET_HEIGHT [X Y CROP_WIDTH CROP_HEIGHT] [--badge FILE | --also WIDTHxHEIGHT=FILE...]";
 
 const HELP: &str = "
 Scales a picture. A PAM picture (netpbm's P7; DEPTH 4, MAXVAL 255, TUPLTYPE RGB_ALPHA) comes in on
@@ -24,19 +27,25 @@ scaled. Sides are 1 to 16384, and a header has at most 4096 bytes.
 
 With --raw and the picture's size, raw RGBA rows, 4 bytes a pixel and no header, come in and go out.
 
-Status: 0 where the preview was written; 1 where the picture, a size or the crop is refused, the
-input is too short or too long, or the output cannot be written; 2 where the arguments are not of
-this form.
+Status: 0 where the preview was written; 1 where the picture, a size, the crop or the badge is
+refused, the input is too short or too long, or the output cannot be written; 2 where the arguments
+are not of this form.
 ";
 
-/// Of the option --also, with the limit as it stands.
-fn further_help() -> String {
+/// Of the options, with the limit as it stands.
+fn options_help() -> String {
     format!(
         "
 With --also a further preview of the same crop, of its own size, is made in the same pass over the
 input and written to the file, in the form of the first. There are at most {GROUP_LIMIT} previews in all.
 
     preview 320 0 --also 640x0=middle.pam --also 1280x0=large.pam <in.pam >small.pam
+
+With --badge the badge in the file, a PAM picture of the preview's size, is laid over the finished
+preview, which has to be opaque. With --raw too the file is a PAM picture. Nothing is written before
+all of the preview is known to be right.
+
+    preview 320 0 --badge badge.pam <in.pam >out.pam
 "
     )
 }
@@ -65,19 +74,49 @@ impl Stop {
 
 impl From<Error> for Stop {
     fn from(why: Error) -> Self {
-        if let Error::GroupTooLarge { jobs } = why {
-            return Self::picture(format!("there are {jobs} previews to make: at most {GROUP_LIMIT} are made in one pass"));
-        }
-        Self::picture(match why {
-            Error::PamMalformed => "the PAM header is outside the form: a line is wrong, unknown, missing or given twice",
-            Error::PamUnsupported => {
-                "the PAM picture is of another kind: only DEPTH 4, MAXVAL 255, TUPLTYPE RGB_ALPHA is taken, as pngtopam -alphapam writes it of a colour PNG (16 bits: pamdepth 255)"
+        match why {
+            Error::GroupTooLarge { jobs } => Self::picture(format!("there are {jobs} previews to make: at most {GROUP_LIMIT} are made in one pass")),
+            Error::CropOutOfBounds { .. } => Self::picture("the crop does not lie within the picture"),
+            Error::UnequalSizes { background, badge } => {
+                let sides = |size: Dimensions| format!("{}x{}", size.width(), size.height());
+                Self::picture(format!("the badge is {} and the preview {}: they have to be of one size", sides(badge), sides(background)))
             }
-            Error::CropOutOfBounds { .. } => "the crop does not lie within the picture",
-            _ => "a side of the picture, of the crop or of the preview is 0 or above 16384",
-        })
+            Error::BackgroundNotOpaque => Self::picture("the preview is not opaque: a badge is laid on an opaque preview only"),
+            _ => Self::picture(OF_INPUT.side),
+        }
     }
 }
+
+/// What is said of a PAM picture with no right header.
+struct Sayings {
+    empty: &'static str,
+    cut: &'static str,
+    other: &'static str,
+    long: &'static str,
+    form: &'static str,
+    kind: &'static str,
+    side: &'static str,
+}
+
+const OF_INPUT: Sayings = Sayings {
+    empty: "the input is empty: there is no PAM picture",
+    cut: "the input ends inside the PAM header",
+    other: "the input is not a PAM picture: its first line is not P7 (pngtopam -alphapam makes one of a PNG; --raw takes rows without a header)",
+    long: "the PAM header is longer than the 4096 bytes that are read",
+    form: "the PAM header is outside the form: a line is wrong, unknown, missing or given twice",
+    kind: "the PAM picture is of another kind: only DEPTH 4, MAXVAL 255, TUPLTYPE RGB_ALPHA is taken, as pngtopam -alphapam writes it of a colour PNG (16 bits: pamdepth 255)",
+    side: "a side of the picture, of the crop or of the preview is 0 or above 16384",
+};
+
+const OF_BADGE: Sayings = Sayings {
+    empty: "the badge is empty: there is no PAM picture",
+    cut: "the badge ends inside the PAM header",
+    other: "the badge is not a PAM picture: its first line is not P7",
+    long: "the PAM header of the badge is longer than the 4096 bytes that are read",
+    form: "the PAM header of the badge is outside the form: a line is wrong, unknown, missing or given twice",
+    kind: "the PAM picture of the badge is of another kind: only DEPTH 4, MAXVAL 255, TUPLTYPE RGB_ALPHA is taken",
+    side: "a side of the badge is 0 or above 16384",
+};
 
 fn number(text: &str) -> Option<u32> {
     if text.bytes().all(|b| b.is_ascii_digit()) { text.parse().ok() } else { None }
@@ -162,69 +201,121 @@ fn plan(source: Dimensions, n: &[u32], further: &[Further]) -> Result<(GroupPrev
     Ok((GroupPreview::new(&plans)?, targets))
 }
 
-/// What is said of an input whose first line is P7, or, cut off, a beginning of that; else that it is not.
-fn of_pam(text: &[u8], said: Stop) -> Stop {
-    if text.starts_with(b"P7\n") || b"P7\n".starts_with(text) {
-        said
-    } else {
-        Stop::picture(
-            "the input is not a PAM picture: its first line is not P7 (pngtopam -alphapam makes one of a PNG; --raw takes rows without a header)",
-        )
+/// Where a picture comes from.
+struct Input {
+    name: String,
+    file: File,
+    buffer: Vec<u8>,
+}
+
+impl Input {
+    fn of(name: String, file: File) -> Self {
+        Self { name, file, buffer: vec![0; 65536] }
+    }
+
+    fn standard() -> Result<Self, Stop> {
+        let file: File = io::stdin().as_fd().try_clone_to_owned().map_err(|why| Stop::stream("standard input", &why))?.into();
+        if file.metadata().is_ok_and(|told| told.is_dir()) {
+            return Err(Stop::picture("standard input is a directory"));
+        }
+        Ok(Self::of("standard input".into(), file))
+    }
+
+    fn open(file: &OsStr) -> Result<Self, Stop> {
+        let name = file.to_string_lossy().into_owned();
+        let file = File::open(file).map_err(|why| Stop::stream(&name, &why))?;
+        Ok(Self::of(name, file))
+    }
+
+    /// The bytes that have come: none at the end.
+    fn read(&mut self) -> Result<&[u8], Stop> {
+        loop {
+            match self.file.read(&mut self.buffer) {
+                Ok(some) => return Ok(&self.buffer[..some]),
+                Err(why) if why.kind() == io::ErrorKind::Interrupted => {}
+                Err(why) => return Err(Stop::stream(&self.name, &why)),
+            }
+        }
+    }
+
+    /// Reads the header. The size that it says, and the bytes that were read after it.
+    fn head(&mut self, said: &Sayings) -> Result<(Dimensions, Vec<u8>), Stop> {
+        // What is said where the first line is P7, or, cut off, a beginning of that.
+        let of_pam = |text: &[u8], line| Stop::picture(if text.starts_with(b"P7\n") || b"P7\n".starts_with(text) { line } else { said.other });
+        let mut text = Vec::new();
+        loop {
+            let some = self.read()?;
+            if some.is_empty() {
+                return Err(if text.is_empty() { Stop::picture(said.empty) } else { of_pam(&text, said.cut) });
+            }
+            text.extend_from_slice(some);
+            let most = &text[..text.len().min(HEADER)];
+            match pam::read_header(most) {
+                Ok(Some(header)) => return Ok((header.size, text.split_off(header.start))),
+                Ok(None) if most.len() < HEADER => {}
+                Ok(None) => return Err(of_pam(most, said.long)),
+                Err(Error::PamMalformed) => return Err(of_pam(most, said.form)),
+                Err(Error::PamUnsupported) => return Err(Stop::picture(said.kind)),
+                Err(_) => return Err(Stop::picture(said.side)),
+            }
+        }
     }
 }
 
-/// Reads the header. The size that it says, and the bytes that were read after it.
-fn head(input: &mut File, buffer: &mut [u8]) -> Result<(Dimensions, Vec<u8>), Stop> {
-    let mut text = Vec::new();
-    loop {
-        let some = read(input, buffer)?;
-        if some == 0 && text.is_empty() {
-            return Err(Stop::picture("the input is empty: there is no PAM picture"));
+/// Reads the pixels of the badge, where it has the preview's size.
+fn badge(file: &OsStr, preview: Dimensions) -> Result<Vec<u8>, Stop> {
+    let mut input = Input::open(file)?;
+    let (size, mut pixels) = input.head(&OF_BADGE)?;
+    if size != preview {
+        return Err(Error::UnequalSizes { background: preview, badge: size }.into());
+    }
+    while pixels.len() <= size.byte_len() {
+        match input.read()? {
+            [] => break,
+            some => pixels.extend_from_slice(some),
         }
-        if some == 0 {
-            return Err(of_pam(&text, Stop::picture("the input ends inside the PAM header")));
-        }
-        text.extend_from_slice(&buffer[..some]);
-        let most = &text[..text.len().min(HEADER)];
-        match pam::read_header(most) {
-            Ok(Some(header)) => return Ok((header.size, text.split_off(header.start))),
-            Ok(None) if most.len() < HEADER => {}
-            Ok(None) => return Err(of_pam(most, Stop::picture("the PAM header is longer than the 4096 bytes that are read"))),
-            Err(Error::PamMalformed) => return Err(of_pam(most, Error::PamMalformed.into())),
-            Err(why) => return Err(why.into()),
-        }
+    }
+    match pixels.len().cmp(&size.byte_len()) {
+        Ordering::Less => Err(Stop::picture("the badge is too short: pixel bytes are missing")),
+        Ordering::Equal => Ok(pixels),
+        Ordering::Greater => Err(Stop::picture("the badge is too long: it goes on after its last pixel")),
     }
 }
 
-/// Takes what a read brought and writes the rows that it makes ready.
-fn pass(previews: &mut GroupPreview, mut bytes: &[u8], outputs: &mut [Output]) -> Result<(), Stop> {
+/// Takes what a read brought and hands out the rows that it makes ready.
+fn pass(previews: &mut GroupPreview, mut bytes: &[u8], each: &mut impl FnMut(usize, &[u8]) -> Result<(), Stop>) -> Result<(), Stop> {
     while !bytes.is_empty() {
         let taken = previews.push(bytes).map_err(|_| Stop::picture("the input is too long: it goes on after the last row"))?;
         bytes = &bytes[taken..];
         while let Some((job, row)) = previews.next_row() {
-            outputs[job].write(row)?;
+            each(job, row)?;
         }
     }
     Ok(())
 }
 
-fn read(input: &mut File, buffer: &mut [u8]) -> Result<usize, Stop> {
+/// Reads the input to its end, what was read with the header first, and hands out each row as it becomes ready, with the number of its preview.
+fn scale(mut previews: GroupPreview, rest: &[u8], input: &mut Input, mut each: impl FnMut(usize, &[u8]) -> Result<(), Stop>) -> Result<(), Stop> {
+    pass(&mut previews, rest, &mut each)?;
     loop {
-        match input.read(buffer) {
-            Err(why) if why.kind() == io::ErrorKind::Interrupted => {}
-            Err(why) if why.kind() == io::ErrorKind::IsADirectory => return Err(Stop::picture("standard input is a directory")),
-            read => return read.map_err(|why| Stop::stream("standard input", &why)),
+        match input.read()? {
+            [] => break,
+            some => pass(&mut previews, some, &mut each)?,
         }
     }
+    if previews.missing() > 0 {
+        return Err(Stop::picture(format!("the input is too short: it has only {} whole rows", previews.group().accepted())));
+    }
+    Ok(())
 }
 
 fn run() -> Result<(), Stop> {
     let words: Vec<OsString> = std::env::args_os().skip(1).collect();
     if words.first().is_some_and(|word| word == "-h" || word == "--help") {
-        let help = format!("{USAGE}\n{HELP}{}", further_help());
+        let help = format!("{USAGE}\n{HELP}{}", options_help());
         return io::stdout().write_all(help.as_bytes()).map_err(|why| Stop::stream("standard output", &why));
     }
-    let (words, further) = words.split_at(words.iter().position(|word| word == "--also").unwrap_or(words.len()));
+    let (words, options) = words.split_at(words.iter().position(|word| word == "--also" || word == "--badge").unwrap_or(words.len()));
     let raw = words.first().is_some_and(|word| word == "--raw");
     let words = &words[usize::from(raw)..];
     let sizes = if raw { 2 } else { 0 };
@@ -232,31 +323,37 @@ fn run() -> Result<(), Stop> {
         return Err(Stop::usage(USAGE));
     }
     let n = numbers(words)?;
-    let further = Further::all(further)?;
-    let mut input = File::from(io::stdin().as_fd().try_clone_to_owned().map_err(|why| Stop::stream("standard input", &why))?);
+    let (badge_file, further) = match options {
+        [option, file] if option == "--badge" => (Some(file), Vec::new()),
+        options => (None, Further::all(options)?),
+    };
+    let mut input = Input::standard()?;
     let mut outputs = vec![Output::standard()?];
-    let mut buffer = vec![0; 65536];
-    let (source, rest) = if raw { (Dimensions::new(n[0], n[1])?, Vec::new()) } else { head(&mut input, &mut buffer)? };
-    let (mut previews, targets) = plan(source, &n[sizes..], &further)?;
+    let (source, rest) = if raw { (Dimensions::new(n[0], n[1])?, Vec::new()) } else { input.head(&OF_INPUT)? };
+    let (previews, targets) = plan(source, &n[sizes..], &further)?;
+    let header = |output: &mut Output, target| if raw { Ok(()) } else { output.write(pam::write_header(target, &mut [0; pam::MAX_HEADER_LEN])) };
+
+    if let Some(file) = badge_file {
+        // Not a byte goes out before all is known to be right.
+        let target = targets[0];
+        let badge = badge(file, target)?;
+        let mut held = Vec::with_capacity(target.byte_len());
+        scale(previews, &rest, &mut input, |_, row| {
+            held.extend_from_slice(row);
+            Ok(())
+        })?;
+        lay_badge(target, PixelLayout::Rgba8, &mut held, ImageRef::new(target, PixelLayout::Rgba8, &badge)?)?;
+        header(&mut outputs[0], target)?;
+        return outputs[0].write(&held);
+    }
+
     for one in &further {
         outputs.push(Output::create(&one.file)?);
     }
-    if !raw {
-        for (output, target) in outputs.iter_mut().zip(targets) {
-            output.write(pam::write_header(target, &mut [0; pam::MAX_HEADER_LEN]))?;
-        }
+    for (output, target) in outputs.iter_mut().zip(targets) {
+        header(output, target)?;
     }
-    pass(&mut previews, &rest, &mut outputs)?;
-    loop {
-        match read(&mut input, &mut buffer)? {
-            0 => break,
-            some => pass(&mut previews, &buffer[..some], &mut outputs)?,
-        }
-    }
-    if previews.missing() > 0 {
-        return Err(Stop::picture(format!("the input is too short: it has only {} whole rows", previews.group().accepted())));
-    }
-    Ok(())
+    scale(previews, &rest, &mut input, |job, row| outputs[job].write(row))
 }
 
 fn main() -> ExitCode {

@@ -6,10 +6,10 @@ use Rattle.preview.proofs.run_rows.Statement.{statement}
 use Rattle.preview.proofs.run_rows.Tie as tie
 
 abbrev Inv-loop : tie.InvT-loop
-Inv-loop row₀ out₀ work₀ run₀ left₀ row out work run left = (length row ≡ length row₀) × (length out ≡ length out₀) × (length work ≡ length work₀)
+Inv-loop held row₀ out₀ work₀ run₀ left₀ row out work run left = (length row ≡ length row₀) × (length out ≡ length out₀) × (length work ≡ length work₀)
 
 abbrev μ-loop : tie.MeasureT-loop
-μ-loop row₀ out₀ work₀ run₀ left₀ row out work run left = left
+μ-loop held row₀ out₀ work₀ run₀ left₀ row out work run left = left
 
 loop-holds : tie.Need-loop-holds Inv-loop μ-loop
 loop-holds c = search needs

@@ -6,10 +6,10 @@ use Rattle.preview.proofs.take_ready.Statement.{statement}
 use Rattle.preview.proofs.take_ready.Tie as tie
 
 abbrev Inv-loop : tie.InvT-loop
-Inv-loop out₀ work₀ run₀ left₀ out work run left = (length out ≡ length out₀) × (length work ≡ length work₀)
+Inv-loop held out₀ work₀ run₀ left₀ out work run left = (length out ≡ length out₀) × (length work ≡ length work₀)
 
 abbrev μ-loop : tie.MeasureT-loop
-μ-loop out₀ work₀ run₀ left₀ out work run left = left
+μ-loop held out₀ work₀ run₀ left₀ out work run left = left
 
 ready-requires : tie.Need-ready-requires Inv-loop μ-loop
 ready-requires c κs = search needs

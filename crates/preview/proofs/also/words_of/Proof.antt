@@ -5,10 +5,10 @@ use Rattle.preview.proofs.also.words_of.Statement.{statement}
 use Rattle.preview.proofs.also.words_of.Tie as tie
 
 abbrev Inv-loop : tie.InvT-loop
-Inv-loop count i₀ t3 i = 0 ≤ i
+Inv-loop count i₀ i = 0 ≤ i
 
 abbrev μ-loop : tie.MeasureT-loop
-μ-loop count i₀ t3 i = count - i
+μ-loop count i₀ i = count - i
 
 arg-count-requires : tie.Need-arg-count-requires Inv-loop μ-loop
 arg-count-requires c κs = search needs
@@ -16,11 +16,8 @@ arg-count-requires c κs = search needs
 loop-holds : tie.Need-loop-holds Inv-loop μ-loop
 loop-holds c = search needs
 
-slice-aggregate-is-word : tie.Need-slice-aggregate-is-word Inv-loop μ-loop
-slice-aggregate-is-word c = search needs
-
-is-word-requires : tie.Need-is-word-requires Inv-loop μ-loop
-is-word-requires c κs = search needs
+is-option-requires : tie.Need-is-option-requires Inv-loop μ-loop
+is-option-requires c κs = search needs
 
 returns : tie.Need-returns Inv-loop μ-loop
 returns c = search needs
@@ -45,8 +42,7 @@ words-of-spec =
     μ-loop
     arg-count-requires
     loop-holds
-    slice-aggregate-is-word
-    is-word-requires
+    is-option-requires
     returns
     add-i
     loop-less

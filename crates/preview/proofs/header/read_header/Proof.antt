@@ -8,10 +8,10 @@ use Rattle.preview.proofs.header.read_header.Statement.{statement}
 use Rattle.preview.proofs.header.read_header.Tie as tie
 
 abbrev Inv-loop : tie.InvT-loop
-Inv-loop text₀ n₀ t4 text n = (length text ≡ 4096) × (n ≤ 4096)
+Inv-loop from text₀ n₀ t5 t6 text n = (length text ≡ 4096) × (n ≤ 4096)
 
 abbrev μ-loop : tie.MeasureT-loop
-μ-loop text₀ n₀ t4 text n = 4096 - n
+μ-loop from text₀ n₀ t5 t6 text n = 4096 - n
 
 loop-holds : tie.Need-loop-holds Inv-loop μ-loop
 loop-holds c = (length-replicate {A = ℕ} 4096 0, omega arith)
@@ -43,6 +43,9 @@ slice-aggregate-say-of-pam c = search needs
 slice-aggregate-say-of-pam-2 : tie.Need-slice-aggregate-say-of-pam-2 Inv-loop μ-loop
 slice-aggregate-say-of-pam-2 c = search needs
 
+slice-aggregate-say-of-pam-3 : tie.Need-slice-aggregate-say-of-pam-3 Inv-loop μ-loop
+slice-aggregate-say-of-pam-3 c = search needs
+
 say-of-pam-requires : tie.Need-say-of-pam-requires Inv-loop μ-loop
 say-of-pam-requires c κs = search needs
 
@@ -65,5 +68,6 @@ read-header-spec =
     loop-again
     slice-aggregate-say-of-pam
     slice-aggregate-say-of-pam-2
+    slice-aggregate-say-of-pam-3
     say-of-pam-requires
     returns-2)

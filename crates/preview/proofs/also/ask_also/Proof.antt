@@ -1,9 +1,9 @@
--- `ask` writes within its previews; the words left are the measure. Assumes nothing.
+-- `ask_also` writes within its previews; the words left are the measure. Assumes nothing.
 use Prim.Native.Nat.{_-_, _≤_}
 use borrow.Author.Needs.{needs}
 use Rattle.group_rules.specs.Group.{groupLimit}
-use Rattle.preview.proofs.also.ask.Statement.{statement}
-use Rattle.preview.proofs.also.ask.Tie as tie
+use Rattle.preview.proofs.also.ask_also.Statement.{statement}
+use Rattle.preview.proofs.also.ask_also.Tie as tie
 
 abbrev Inv-loop : tie.InvT-loop
 Inv-loop words asked₀ i₀ k₀ asked i k = k ≤ groupLimit
@@ -65,8 +65,8 @@ loop-again c = search needs
 returns-4 : tie.Need-returns-4 Inv-loop μ-loop
 returns-4 c = search needs
 
-pub ask-spec : {M : Type 1} → statement M
-ask-spec =
+pub ask-also-spec : {M : Type 1} → statement M
+ask-also-spec =
     tie.close
     (tie.spec
     Inv-loop

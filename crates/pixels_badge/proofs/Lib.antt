@@ -1,0 +1,10 @@
+pub mod Sums
+pub mod Words
+pub mod OpaquePixels
+pub mod Turning
+pub mod Blocks
+pub mod Laying
+pub mod LaidBlocks
+pub mod Fitting
+pub mod Theorem
+pub mod Trials
