@@ -28,9 +28,9 @@ extern "C" {
 #endif
 
 #define JONQUILSAW_VERSION_MAJOR 0
-#define JONQUILSAW_VERSION_MINOR 9
+#define JONQUILSAW_VERSION_MINOR 10
 #define JONQUILSAW_VERSION_PATCH 0
-#define JONQUILSAW_VERSION "0.9.0"
+#define JONQUILSAW_VERSION "0.10.0"
 
 /* The largest side of a picture or a plane. */
 #define JONQUILSAW_MAX_SIDE 16384u
@@ -127,6 +127,10 @@ typedef enum jonquilsaw_number {
     JONQUILSAW_UNEQUAL_SIZES = 15,
     /* a background with an alpha byte other than 255; tested straight after 15 */
     JONQUILSAW_BACKGROUND_NOT_OPAQUE = 16,
+    /* an empty stretch, one that is not exactly the rows of the next band, or any where there is no
+     * band: rows above the crop are still due, the last preview row is made, or the height grows;
+     * tested straight after 6 */
+    JONQUILSAW_INVALID_BAND = 17,
     /* a layout argument that is none, or a slice for the answer that is too short; of a group's plans
      * too few words, or a layout or kind word that is none; tested before all others */
     JONQUILSAW_BOUNDARY = 100
@@ -171,6 +175,22 @@ uint32_t jonquilsaw_start_planes(uint32_t source_width, uint32_t source_height,
 uint32_t jonquilsaw_offer(uint32_t *record, size_t record_count, const uint8_t *rows,
                           size_t rows_count, uint32_t *work, size_t work_count, uint32_t *count,
                           size_t count_count);
+
+/* Writes how many rows the next band of a job of either kind has to the first word of count: the
+ * source rows from the next one due up to, but without, the one that makes the next preview row ready.
+ * 0 where there is no band: that row is due itself, rows above the crop are still due, the last
+ * preview row is made, or the height grows. Of a preview one row high it may be all of the crop but
+ * its last row. Refuses with 100 (no word of count), 6, in this order. */
+uint32_t jonquilsaw_band_count(const uint32_t *record, size_t record_count, uint32_t *count,
+                               size_t count_count);
+
+/* Offers exactly the rows of the next band, top row first, for a decoder that fills its buffer
+ * bottom-up: they are added from last to first. Record, work values and count end as they do when the
+ * same rows are offered with jonquilsaw_offer, by which the row after the band comes. Refuses with 100
+ * (no word of count), 6, 17, 5, 7, 8, in this order. */
+uint32_t jonquilsaw_band_offer(uint32_t *record, size_t record_count, const uint8_t *rows,
+                               size_t rows_count, uint32_t *work, size_t work_count, uint32_t *count,
+                               size_t count_count);
 
 /* Takes the next preview row of a job of either kind: exactly lanes x target width bytes, 4 x for a
  * picture. Moves the record and the work values on. Refuses with 6, 4, 5, 9, in this order. */
@@ -331,6 +351,7 @@ static inline const char *jonquilsaw_meaning(uint32_t number) {
     case JONQUILSAW_GROUP_TOO_LARGE: return "there are more jobs than a group holds";
     case JONQUILSAW_UNEQUAL_SIZES: return "the badge has another size than the background";
     case JONQUILSAW_BACKGROUND_NOT_OPAQUE: return "the background is not opaque";
+    case JONQUILSAW_INVALID_BAND: return "the bytes are not exactly the rows of the next band";
     case JONQUILSAW_BOUNDARY: return "a layout or kind is none, or a lent slice is too short";
     default: return "no number of this library";
     }

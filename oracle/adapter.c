@@ -49,6 +49,14 @@ uint32_t ours_offer(uint32_t record[OURS_RECORD], const uint8_t* bytes, size_t l
   return jonquilsaw_offer(record, OURS_RECORD, bytes, len, work, work_len, rows, 1);
 }
 
+uint32_t ours_band(uint32_t record[OURS_RECORD], const uint8_t* bytes, size_t len, uint32_t* work, size_t work_len, uint32_t* rows) {
+  return jonquilsaw_band_offer(record, OURS_RECORD, bytes, len, work, work_len, rows, 1);
+}
+
+uint32_t ours_band_count(const uint32_t record[OURS_RECORD], uint32_t* rows) {
+  return jonquilsaw_band_count(record, OURS_RECORD, rows, 1);
+}
+
 uint32_t ours_take(uint32_t record[OURS_RECORD], uint8_t* out, size_t out_len, uint32_t* work, size_t work_len) {
   return jonquilsaw_take(record, OURS_RECORD, out, out_len, work, work_len);
 }

@@ -43,6 +43,12 @@ pub mod open {
         pub fn pending(&self) -> bool {
             self.0.has_pending_output()
         }
+        pub fn done(&self) -> bool {
+            self.0.output_done()
+        }
+        pub fn grows(&self) -> bool {
+            self.0.y_expand
+        }
         /// Writes the next output row as row `at` of `dst`.
         pub fn export_at(&mut self, at: u32) {
             let t = self.0.dst_y;

@@ -159,18 +159,24 @@ typedef struct {
 /* One call: what it answers. Returns whether what was not lent is as it was. */
 static int call(Rows* rows, char kind, char** at) {
   uint64_t a[3];
-  numbers(at, a, kind == 'o' ? 3 : 2);
+  numbers(at, a, kind == 'o' || kind == 'b' ? 3 : kind == 'c' ? 0 : 2);
   if (kind == 's') {
     rows->record[a[0]] = (uint32_t)a[1];
+    return 1;
+  }
+  if (kind == 'c') {
+    uint32_t count = 0;
+    const uint32_t n = ours_band_count(rows->record, &count);
+    printf(" %u %u", n, n == 0 ? count : 0);
     return 1;
   }
   uint32_t* const work = (uint32_t*)rows->work.at;
   uint32_t* const before = malloc(rows->work.n + 4);
   int kept = 1;
   memcpy(before, rows->work.at, rows->work.n);
-  if (kind == 'o') {
+  if (kind == 'o' || kind == 'b') {
     uint32_t count = 0;
-    const uint32_t n = ours_offer(rows->record, rows->px.at + a[0], a[1], work, a[2], &count);
+    const uint32_t n = (kind == 'o' ? ours_offer : ours_band)(rows->record, rows->px.at + a[0], a[1], work, a[2], &count);
     printf(" %u %u", n, n == 0 ? count : 0);
     kept = beyond_kept(&rows->work, before, a[2]);
   } else {

@@ -25,6 +25,9 @@ uint32_t ours_start_planes(uint32_t w, uint32_t h, uint32_t tw, uint32_t th, uin
                            uint32_t records[3][OURS_RECORD]);
 /* On success *rows is the count accepted. The record becomes the one handed back, on refusal too. */
 uint32_t ours_offer(uint32_t record[OURS_RECORD], const uint8_t* bytes, size_t len, uint32_t* work, size_t work_len, uint32_t* rows);
+uint32_t ours_band(uint32_t record[OURS_RECORD], const uint8_t* bytes, size_t len, uint32_t* work, size_t work_len, uint32_t* rows);
+/* On success *rows is the rows of the next band. */
+uint32_t ours_band_count(const uint32_t record[OURS_RECORD], uint32_t* rows);
 uint32_t ours_take(uint32_t record[OURS_RECORD], uint8_t* out, size_t out_len, uint32_t* work, size_t work_len);
 
 /* A group's record is the count of its jobs, then the record of each. A start that refuses leaves its words as they are. */

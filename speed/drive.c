@@ -60,6 +60,9 @@ static const Job kPreviews[] = {{"large", 4000, 3000, 0, 0, 4000, 3000, 320, 240
                                 {"middle", 4000, 3000, 0, 0, 4000, 3000, 160, 120},
                                 {"small", 4000, 3000, 0, 0, 4000, 3000, 64, 48}};
 
+/* Pictures fed by bands. */
+static const Job kBanded[] = {{"sixth", 1920, 1080, 0, 0, 1920, 1080, 320, 180}, {"tenth", 4000, 3000, 0, 0, 4000, 3000, 400, 300}};
+
 /* Badges, translucent, over opaque backgrounds: the layouts of both, and the loop of plain C for them. */
 typedef struct {
   const char* name;
@@ -81,6 +84,7 @@ enum {
   JOBS = sizeof kJobs / sizeof kJobs[0],
   PLANES = sizeof kPlanes / sizeof kPlanes[0],
   PREVIEWS = sizeof kPreviews / sizeof kPreviews[0],
+  BANDED = sizeof kBanded / sizeof kBanded[0],
   BADGES = sizeof kBadges / sizeof kBadges[0],
   ARRIVING = 8,
   MOST_ROUNDS = 1000
@@ -499,6 +503,49 @@ static void measure_previews(int translucent, int rounds, double spent[WAYS][MOS
   free(argb), free(work), free(pixels), free(made[GROUP]), free(made[PASSES]);
 }
 
+/* The two ways to feed the rows of a band: as a band, and by an offer. The row after them comes by an offer in both. */
+enum { BY_BANDS, BY_OFFERS, FEEDS };
+
+static double time_feed(int feed, const Job* j, uint32_t layout, const uint8_t* pixels, uint32_t* work, uint8_t* out) {
+  const size_t row = (size_t)4 * j->w, n = (size_t)4 * j->tw, words = JONQUILSAW_WORK_WORDS(j->tw);
+  uint32_t record[JONQUILSAW_RECORD_WORDS], rows = 0, count = 0, taken = 0;
+  const double t = now();
+  if (jonquilsaw_start(j->w, j->h, layout, j->x, j->y, j->cw, j->ch, j->tw, j->th, work, words, record, JONQUILSAW_RECORD_WORDS)) refuse("start");
+  for (uint32_t y = 0; y < j->h; y += count) {
+    if (jonquilsaw_band_count(record, JONQUILSAW_RECORD_WORDS, &rows, 1)) refuse("band_count");
+    const int band = rows && feed == BY_BANDS;
+    const size_t lent = rows ? rows * row : row;
+    if ((band ? jonquilsaw_band_offer : jonquilsaw_offer)(record, JONQUILSAW_RECORD_WORDS, pixels + y * row, lent, work, words, &count, 1)) {
+      refuse(band ? "band_offer" : "offer");
+    }
+    for (; jonquilsaw_take(record, JONQUILSAW_RECORD_WORDS, out, n, work, words) == JONQUILSAW_OK; ++taken) out += n;
+  }
+  if (taken != j->th) refuse("rows are missing");
+  return now() - t;
+}
+
+/* As `measure`. */
+static void measure_bands(const Job* j, int translucent, int rounds, double spent[FEEDS][MOST_ROUNDS]) {
+  const size_t n = source_pixels(j), out = target_bytes(j);
+  uint32_t *const argb = room(4 * n), *const work = room(4 * JONQUILSAW_WORK_WORDS(j->tw));
+  uint8_t* const pixels = room(4 * n);
+  uint8_t* const made[FEEDS] = {room(out), room(out)};
+  uint32_t state = 1;
+  for (size_t i = 0; i < n; ++i) argb[i] = next_pixel(&state, translucent);
+  for (int r = -1; r < rounds; ++r) { /* round -1 warms up */
+    const uint32_t layout = (uint32_t)(r + 1) % 3;
+    for (int k = 0; k < FEEDS; ++k) {
+      const int feed = (k + r + 1) % FEEDS;
+      for (size_t i = 0; i < n; ++i) pack(layout, argb[i], pixels + 4 * i);
+      memset(made[feed], 0x5c + feed, out);
+      const double t = time_feed(feed, j, layout, pixels, work, made[feed]);
+      if (r >= 0) spent[feed][r] = t / (double)n;
+    }
+    if (memcmp(made[BY_BANDS], made[BY_OFFERS], out)) refuse("bands and offers do not make the same bytes");
+  }
+  free(argb), free(work), free(pixels), free(made[BY_BANDS]), free(made[BY_OFFERS]);
+}
+
 /* The two that lay a badge. Ours sees that the background is opaque; plain C blends only. */
 enum { LAID, LAID_PLAIN, LAYERS };
 
@@ -704,6 +751,23 @@ static void preview_times(int wanted) {
   }
 }
 
+static void band_times(int wanted) {
+  static double spent[FEEDS][MOST_ROUNDS];
+  fputs("\nBands, each with the row after it by an offer, and offers of the same rows; the rows of each band asked for in both; ", stdout);
+  puts("ns of processor time for each source pixel, the rest as above:\n");
+  puts("| bands | by bands | by offers | bands / offers |\n|---|---|---|---|");
+  for (int i = 0; i < 2 * BANDED; ++i) {
+    const Job* const j = &kBanded[i / 2];
+    const int rounds = wanted ? wanted : source_pixels(j) > 4000000 ? 15 : 45;
+    measure_bands(j, i % 2, rounds, spent);
+    printf("| %ux%u to %ux%u, %s |", j->w, j->h, j->tw, j->th, i % 2 ? "translucent" : "opaque");
+    for (int feed = 0; feed < FEEDS; ++feed) printf(" %.2f |", figure(spent[feed], rounds).median);
+    ratio(spent, BY_BANDS, BY_OFFERS, rounds, 1);
+    putchar('\n');
+    fflush(stdout);
+  }
+}
+
 static void badge_times(int wanted) {
   static double spent[LAYERS][MOST_ROUNDS];
   fputs("\nBadges, translucent, over an opaque background: ours, which sees that it is opaque, and a loop of plain C, which blends only; ", stdout);
@@ -763,6 +827,7 @@ int main(int argc, char** argv) {
   times((int)wanted);
   plane_times((int)wanted);
   preview_times((int)wanted);
+  band_times((int)wanted);
   badge_times((int)wanted);
   memory(argv[0]);
   return 0;

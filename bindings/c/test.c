@@ -1,5 +1,5 @@
 /* Calls every function of include/jonquilsaw.h: the trials of docs/SCOPE.md, planes, restored pixels and badges against its formulas, PAM pictures, groups against their
- * jobs alone, each refusal in its order, and that a refused call leaves every buffer as it was.
+ * jobs alone, bands against offers, each refusal in its order, and that a refused call leaves every buffer as it was.
  * Every buffer is lent with a page behind it that cannot be touched, since the sanitizers look at this file only. Prints one line. */
 #define _DEFAULT_SOURCE
 #include "jonquilsaw.h"
@@ -388,10 +388,10 @@ static void with_types(void) {
     EXPECT(all_of.x == 0 && all_of.y == 0 && all_of.width == 2 && all_of.height == 3);
 
     /* each number has words of its own */
-    const uint32_t numbers[] = {0, 1, 2, 3, 4, 5, 6, 7, 8, 9, 10, 11, 12, 13, 14, 15, 16, 100, 101};
+    const uint32_t numbers[] = {0, 1, 2, 3, 4, 5, 6, 7, 8, 9, 10, 11, 12, 13, 14, 15, 16, 17, 100, 101};
     for (size_t i = 0; i < sizeof numbers / sizeof *numbers; i++)
         for (size_t k = 0; k < i; k++) EXPECT(strcmp(jonquilsaw_meaning(numbers[i]), jonquilsaw_meaning(numbers[k])) != 0);
-    EXPECT(strcmp(jonquilsaw_meaning(17), jonquilsaw_meaning(4294967295u)) == 0);
+    EXPECT(strcmp(jonquilsaw_meaning(18), jonquilsaw_meaning(4294967295u)) == 0);
     char version[32];
     snprintf(version, sizeof version, "%d.%d.%d", JONQUILSAW_VERSION_MAJOR, JONQUILSAW_VERSION_MINOR, JONQUILSAW_VERSION_PATCH);
     EXPECT(strcmp(version, JONQUILSAW_VERSION) == 0);
@@ -1594,6 +1594,299 @@ static void badges(void) {
     EXPECT(jonquilsaw_badge_lay(1, 1, 2, NULL, 0, 2, 1, 0, NULL, 0) == JONQUILSAW_PIXEL_BUFFER_MISMATCH);
 }
 
+/* ---- bands */
+
+/* R of k source rows, of a crop of h rows behind the first `top`. */
+static uint64_t rows_by(uint32_t k, uint32_t top, uint32_t h, uint32_t g) { return made_by(k < top ? 0 : k - top < h ? k - top : h, h, g); }
+
+/* The definition: the rows from k on up to, but without, the first at which R rises above R(k). */
+static uint32_t band_by(uint32_t k, uint32_t source, uint32_t top, uint32_t h, uint32_t g) {
+    if (k < top || g > h) return 0;
+    for (uint32_t s = k; s < source; s++)
+        if (rows_by(s + 1, top, h, g) > rows_by(k, top, h, g)) return s - k;
+    return 0;
+}
+
+static uint32_t lanes_of(const uint32_t *plan) { return plan[9] == JONQUILSAW_PICTURE ? JONQUILSAW_PIXEL_LANES : plan[10]; }
+
+/* The record of a plan's job after k rows, t of the preview's taken. */
+static void fill_record(uint32_t *record, const uint32_t *plan, uint32_t k, uint32_t t) {
+    memcpy(record, plan, 36);
+    record[9] = k;
+    record[10] = t;
+    record[11] = 0;
+    record[12] = plan[9];
+    record[13] = lanes_of(plan);
+}
+
+/* How many rows the next band has, of every record of many heights: whether or not a row is ready plays no part. */
+static void bands_counted(void) {
+    uint32_t *record = words_of(14, 0), *kept = words_of(14, 0), *count = words_of(2, 8), plan[JONQUILSAW_PLAN_WORDS];
+    for (uint32_t h = 1; h <= 24; h++) {
+        for (uint32_t i = 0; i < 9 * (h + 3); i++) {
+            const uint32_t top = i % 3, below = i / 3 % 3, g = 1 + i / 9, source = top + h + below;
+            const jonquilsaw_rect crop = {1, top, 2, h};
+            for (uint32_t k = 0; k <= source; k++) {
+                plan_of(plan, 3, source, 0, crop, 5, g, k % 2 ? JONQUILSAW_PLANE : JONQUILSAW_PICTURE, 1 + i % 4);
+                for (uint64_t t = k == 0 ? 0 : rows_by(k - 1, top, h, g); t <= rows_by(k, top, h, g); t++) {
+                    fill_record(record, plan, k, (uint32_t)t);
+                    memcpy(kept, record, 56);
+                    count[0] = 8;
+                    EXPECT(jonquilsaw_band_count(record, 14, count, 2) == 0 && count[0] == band_by(k, source, top, h, g));
+                    EXPECT(memcmp(record, kept, 56) == 0 && count[1] == 8);
+                }
+            }
+        }
+    }
+    /* the largest height, from the last row upwards: a row with which R rises has no band, and any other has one row more than the next */
+    const uint32_t targets[] = {1, 2, 3, 5, 127, 5461, 8191, 8192, 8193, 16383, 16384};
+    const jonquilsaw_rect tall = {0, 0, 1, 16384};
+    for (size_t i = 0; i < sizeof targets / sizeof *targets; i++) {
+        uint32_t due = 0, off = 0;
+        plan_of(plan, 1, 16384, 0, tall, 1, targets[i], JONQUILSAW_PLANE, 1);
+        for (uint32_t k = 16384; k-- > 0;) {
+            const uint64_t t = rows_by(k, 0, 16384, targets[i]);
+            due = rows_by(k + 1, 0, 16384, targets[i]) > t ? 0 : due + 1;
+            fill_record(record, plan, k, (uint32_t)t);
+            off += jonquilsaw_band_count(record, 14, count, 1) != 0 || count[0] != due;
+        }
+        EXPECT(off == 0);
+        fill_record(record, plan, 16384, targets[i]);
+        EXPECT(jonquilsaw_band_count(record, 14, count, 1) == 0 && count[0] == 0);
+    }
+    give_back(record, 56);
+    give_back(kept, 56);
+    give_back(count, 8);
+}
+
+/* What a job is lent: 16 words of record, 3 more work values than it needs and 2 words of count. */
+typedef struct {
+    uint32_t *record, *work, *count;
+} lent_job;
+
+static lent_job started(const uint32_t *plan, size_t need) {
+    const lent_job job = {words_of(16, 66), words_of(need + 3, 77), words_of(2, 55)};
+    EXPECT(start_alone(plan, job.work, need + 3, job.record, 16) == 0);
+    return job;
+}
+
+static void copy_job(const lent_job *to, const lent_job *from, size_t need) {
+    memcpy(to->record, from->record, 64);
+    memcpy(to->work, from->work, 4 * (need + 3));
+    memcpy(to->count, from->count, 8);
+}
+
+static int same_job(const lent_job *a, const lent_job *b, size_t need) {
+    return memcmp(a->record, b->record, 64) == 0 && memcmp(a->work, b->work, 4 * (need + 3)) == 0 && memcmp(a->count, b->count, 8) == 0;
+}
+
+/* A job that is lent its bands against one that is offered the same rows at once and one that is offered them singly: records, work values, counts and preview rows
+ * are the same after every call. Now and then a row that a band would bring is offered by itself. Rows lent end where nothing can be touched, and stay. */
+static void by_bands(const uint32_t *plan, const uint8_t *pixels) {
+    const uint32_t height = plan[1], lanes = lanes_of(plan);
+    const size_t row = (size_t)lanes * plan[0], line = (size_t)lanes * plan[7], need = 2 * line, n = row * height;
+    const lent_job band = started(plan, need), at_once = started(plan, need), singly = started(plan, need), turned = started(plan, need);
+    uint8_t *room = bytes_of(n, 0), *out = bytes_of(line, 1), *other = bytes_of(line, 2);
+    for (uint32_t k = 0, count; k < height; k += count) {
+        uint32_t due = 0;
+        EXPECT(jonquilsaw_band_count(band.record, 16, &due, 1) == 0 && due == band_by(k, height, plan[4], plan[6], plan[8]));
+        if (due > height - k) {
+            fprintf(stderr, "bindings/c/test.c: a band of %u rows where %u are left\n", due, height - k);
+            exit(1);
+        }
+        const int whole = due > 0 && any_byte() % 4 != 0;
+        count = whole ? due : 1;
+        uint8_t *rows = room + row * (height - count);
+        memcpy(rows, pixels + row * k, row * count);
+        copy_job(&turned, &band, need);
+        EXPECT((whole ? jonquilsaw_band_offer : jonquilsaw_offer)(band.record, 16, rows, row * count, band.work, need + k % 4, band.count, 2) == 0);
+        EXPECT(jonquilsaw_offer(at_once.record, 16, rows, row * count, at_once.work, need, at_once.count, 2) == 0);
+        EXPECT(band.count[0] == count && same_job(&band, &at_once, need));
+        for (uint32_t i = 0; i < count; i++) EXPECT(jonquilsaw_offer(singly.record, 16, rows + row * i, row, singly.work, need, singly.count, 2) == 0 && singly.count[0] == 1);
+        singly.count[0] = count;
+        EXPECT(same_job(&band, &singly, need) && memcmp(rows, pixels + row * k, row * count) == 0);
+        /* in another order the sums are the same, which are the first half */
+        if (whole) {
+            for (uint32_t i = 0; i < count; i++) memcpy(rows + row * i, pixels + row * (k + (i + 1) % count), row);
+            EXPECT(jonquilsaw_band_offer(turned.record, 16, rows, row * count, turned.work, need, turned.count, 2) == 0);
+            EXPECT(memcmp(turned.record, band.record, 64) == 0 && memcmp(turned.work, band.work, 4 * line) == 0);
+        }
+        while (jonquilsaw_take(band.record, 16, out, line, band.work, need) == 0) {
+            EXPECT(!whole && jonquilsaw_take(at_once.record, 16, other, line, at_once.work, need) == 0 && memcmp(out, other, line) == 0);
+            EXPECT(jonquilsaw_take(singly.record, 16, other, line, singly.work, need) == 0 && memcmp(out, other, line) == 0);
+            EXPECT(same_job(&band, &at_once, need) && same_job(&band, &singly, need));
+        }
+    }
+    EXPECT(band.record[9] == height && band.record[10] == plan[8] && words_all(band.record + 14, 2, 66) && words_all(band.work + need, 3, 77) && band.count[1] == 55);
+    const lent_job jobs[4] = {band, at_once, singly, turned};
+    for (int i = 0; i < 4; i++) {
+        give_back(jobs[i].record, 64);
+        give_back(jobs[i].work, 4 * (need + 3));
+        give_back(jobs[i].count, 8);
+    }
+    give_back(room, n);
+    give_back(out, line);
+    give_back(other, line);
+}
+
+/* The plan of a picture in one of three layouts, or of a plane of 1 to 4 lanes. */
+static void plan_in_form(uint32_t *plan, uint32_t form, uint32_t w, uint32_t h, jonquilsaw_rect crop, uint32_t m, uint32_t g) {
+    plan_of(plan, w, h, form < 3 ? form : 0, crop, m, g, form < 3 ? JONQUILSAW_PICTURE : JONQUILSAW_PLANE, form < 3 ? 4 : form - 2);
+}
+
+static void bands_against_offers(void) {
+    enum { MOST = 4 * 211 * 97 };
+    uint8_t *pixels = bytes_of(MOST, 0);
+    uint32_t plan[JONQUILSAW_PLAN_WORDS];
+    for (uint32_t form = 0; form < 3 + JONQUILSAW_MAX_LANES; form++) {
+        for (size_t i = 0; i < MOST; i++) pixels[i] = any_byte();
+        for (uint32_t h = 1; h <= 9; h++) {
+            for (uint32_t g = 1; g <= h + 1; g++) {
+                const jonquilsaw_rect whole = {0, 0, 3, h}, part = {1, 2, 2, h};
+                plan_in_form(plan, form, 3, h, whole, 2, g);
+                by_bands(plan, pixels);
+                plan_in_form(plan, form, 4, h + 3, part, 5, g);
+                by_bands(plan, pixels);
+            }
+        }
+        for (int i = 0; i < 60; i++) {
+            const uint32_t w = 1 + any_byte() % 20, h = 1 + any_byte() % 40, width = 1 + any_byte() % w, height = 1 + any_byte() % h;
+            const jonquilsaw_rect crop = {any_byte() % (w - width + 1), any_byte() % (h - height + 1), width, height};
+            plan_in_form(plan, form, w, h, crop, 1 + any_byte() % 24, 1 + any_byte() % height);
+            by_bands(plan, pixels);
+        }
+        const jonquilsaw_rect large = {7, 5, 190, 83};
+        plan_in_form(plan, form, 211, 97, large, 64, 31);
+        by_bands(plan, pixels);
+        plan_in_form(plan, form, 211, 97, large, 200, 3);
+        by_bands(plan, pixels);
+    }
+    give_back(pixels, MOST);
+
+    /* by hand: rows of 10 and 20, 30 and 40, 50 and 61 to one column are 30, 70 and 111; the second half has the last */
+    uint8_t *rows = bytes_of(8, 0), *out = bytes_of(1, 0);
+    uint32_t *work = words_of(2, 7), *record = words_of(14, 0), *count = words_of(1, 8);
+    memcpy(rows, (const uint8_t[]){10, 20, 30, 40, 50, 61, 70, 80}, 8);
+    EXPECT(jonquilsaw_start_plane(2, 4, 1, 0, 0, 2, 4, 1, 1, work, 2, record, 14) == 0);
+    EXPECT(jonquilsaw_band_offer(record, 14, rows, 6, work, 2, count, 1) == 0 && count[0] == 3 && record[9] == 3 && record[10] == 0);
+    EXPECT(work[0] == 30 + 70 + 111 && work[1] == 111);
+    EXPECT(jonquilsaw_offer(record, 14, rows + 6, 2, work, 2, count, 1) == 0 && count[0] == 1 && jonquilsaw_take(record, 14, out, 1, work, 2) == 0 && out[0] == 45);
+
+    /* sums that wrap wrap alike: 1,099 rows of white, 16,384 wide */
+    const size_t n = (size_t)16384 * 1099;
+    uint8_t *white = bytes_of(n, 255);
+    EXPECT(jonquilsaw_start_plane(16384, 1100, 1, 0, 0, 16384, 1100, 1, 1, work, 2, record, 14) == 0);
+    EXPECT(jonquilsaw_band_offer(record, 14, white, n, work, 2, count, 1) == 0 && count[0] == 1099);
+    EXPECT(work[0] == (uint32_t)(255 * (uint64_t)n) && work[1] == 255 * 16384);
+    give_back(white, n);
+    give_back(rows, 8);
+    give_back(out, 1);
+    give_back(work, 8);
+    give_back(record, 56);
+    give_back(count, 4);
+}
+
+/* Every count of rows accepted and taken that the job of a plan can have, with every number of bytes up to a row more than the source has; with too few words of record, too
+ * few work values and no word of count: of any of these at once the first of the order 100, 6, 17, 5, 7 is told, and all stays as it was. There is no 8: where all rows
+ * are accepted there is no band. What is accepted leaves what an offer of the same rows leaves. */
+static void bands_refused(const uint32_t *plan) {
+    const uint32_t source = plan[1], top = plan[4], h = plan[6], g = plan[8];
+    const size_t row = (size_t)lanes_of(plan) * plan[0], need = JONQUILSAW_WORK_WORDS_OF(lanes_of(plan), plan[7]), most = row * (source + 1);
+    const size_t words[4] = {0, 13, 14, 16}, values[4] = {0, need - 1, need, need + 3};
+    const lent_job given = started(plan, need), kept = started(plan, need), offered = started(plan, need);
+    uint8_t *room = bytes_of(most, 0);
+    for (size_t i = 0; i < need; i++) kept.work[i] = any_byte() * 16777259u;
+    for (size_t i = 0; i < most; i++) room[i] = any_byte();
+    for (uint32_t k = 0; k <= source; k++) {
+        const size_t due = band_by(k, source, top, h, g);
+        for (uint64_t t = k == 0 ? 0 : rows_by(k - 1, top, h, g); t <= rows_by(k, top, h, g); t++) {
+            fill_record(kept.record, plan, k, (uint32_t)t);
+            copy_job(&given, &kept, need);
+            for (size_t i = 0; i < (most + 1) * 4 * 4 * 3; i++) {
+                const size_t bytes = i / 48, lent_words = words[i % 4], lent_values = values[i / 4 % 4], counts = i / 16 % 3;
+                const uint32_t want = counts == 0 ? 100 : lent_words < 14 ? 6 : bytes == 0 || bytes != row * due ? 17 : lent_values < need ? 5 : t < rows_by(k, top, h, g) ? 7 : 0;
+                const uint8_t *rows = room + (most - bytes);
+                EXPECT(jonquilsaw_band_offer(given.record, lent_words, rows, bytes, given.work, lent_values, given.count, counts) == want);
+                if (want == 0) {
+                    copy_job(&offered, &kept, need);
+                    EXPECT(jonquilsaw_offer(offered.record, 14, rows, bytes, offered.work, need, offered.count, 1) == 0);
+                    EXPECT(same_job(&given, &offered, need) && given.record[9] == k + due && given.count[0] == due);
+                    copy_job(&given, &kept, need);
+                }
+                EXPECT(same_job(&given, &kept, need));
+            }
+            EXPECT(jonquilsaw_band_offer(given.record, 16, NULL, 0, given.work, need, given.count, 1) == JONQUILSAW_INVALID_BAND && same_job(&given, &kept, need));
+        }
+    }
+    const lent_job jobs[3] = {given, kept, offered};
+    for (int i = 0; i < 3; i++) {
+        give_back(jobs[i].record, 64);
+        give_back(jobs[i].work, 4 * (need + 3));
+        give_back(jobs[i].count, 8);
+    }
+    give_back(room, most);
+}
+
+/* Words that make no record, ahead of whatever else is wrong and with nothing else wrong; and too few of them. Of a 2 by 6 picture to 1 by 2: two rows are a band. */
+static void bands_of_no_record(void) {
+    uint8_t *rows = bytes_of(16, 100);
+    uint32_t *work = words_of(8, 3), *kept_work = words_of(8, 3), *record = words_of(15, 4), *kept_record = words_of(15, 4), *count = words_of(2, 8);
+    const struct {
+        int place;
+        uint32_t word;
+    } all_wrong[] = {{2, 3}, {2, 4294967295u}, {11, 2}, {11, 1}, {10, 1}, {9, 7}, {5, 0}, {6, 7}, {0, 16385}, {1, 0}, {3, 1}, {7, 0}, {8, 16385}, {12, 1}, {12, 2}, {13, 3}, {13, 5}};
+    EXPECT(jonquilsaw_start(2, 6, 1, 0, 0, 2, 6, 1, 2, work, 8, record, 15) == 0);
+    memcpy(kept_record, record, 60);
+    memcpy(kept_work, work, 32);
+#define KEPT (memcmp(record, kept_record, 60) == 0 && memcmp(work, kept_work, 32) == 0 && words_all(count, 2, 8) && all(rows, 16, 100))
+    for (size_t i = 0; i < sizeof all_wrong / sizeof *all_wrong; i++) {
+        const uint32_t right = record[all_wrong[i].place];
+        record[all_wrong[i].place] = kept_record[all_wrong[i].place] = all_wrong[i].word;
+        EXPECT(jonquilsaw_band_offer(record, 15, rows, 0, work, 0, count, 0) == JONQUILSAW_BOUNDARY && KEPT);
+        EXPECT(jonquilsaw_band_offer(record, 15, rows, 0, work, 0, count, 1) == JONQUILSAW_INVALID_RECORD && KEPT);
+        EXPECT(jonquilsaw_band_offer(record, 15, rows, 16, work, 8, count, 2) == JONQUILSAW_INVALID_RECORD && KEPT);
+        EXPECT(jonquilsaw_band_count(record, 15, count, 0) == JONQUILSAW_BOUNDARY && KEPT);
+        EXPECT(jonquilsaw_band_count(record, 15, count, 2) == JONQUILSAW_INVALID_RECORD && KEPT);
+        record[all_wrong[i].place] = kept_record[all_wrong[i].place] = right;
+    }
+    for (size_t words = 0; words < JONQUILSAW_RECORD_WORDS; words++) {
+        EXPECT(jonquilsaw_band_offer(record, words, rows, 16, work, 8, count, 0) == JONQUILSAW_BOUNDARY && KEPT);
+        EXPECT(jonquilsaw_band_offer(record, words, rows, 16, work, 8, count, 1) == JONQUILSAW_INVALID_RECORD && KEPT);
+        EXPECT(jonquilsaw_band_count(record, words, count, 0) == JONQUILSAW_BOUNDARY && KEPT);
+        EXPECT(jonquilsaw_band_count(record, words, count, 1) == JONQUILSAW_INVALID_RECORD && KEPT);
+    }
+    EXPECT(jonquilsaw_band_count(record, 15, count, 0) == JONQUILSAW_BOUNDARY && KEPT);
+    EXPECT(jonquilsaw_band_offer(NULL, 0, NULL, 0, NULL, 0, NULL, 0) == JONQUILSAW_BOUNDARY && jonquilsaw_band_count(NULL, 0, NULL, 0) == JONQUILSAW_BOUNDARY);
+    EXPECT(jonquilsaw_band_offer(NULL, 0, NULL, 0, NULL, 0, count, 1) == JONQUILSAW_INVALID_RECORD && jonquilsaw_band_count(NULL, 0, count, 1) == JONQUILSAW_INVALID_RECORD && KEPT);
+    /* with nothing wrong */
+    EXPECT(jonquilsaw_band_count(record, 15, count, 2) == 0 && count[0] == 2 && count[1] == 8);
+    count[0] = 8;
+    EXPECT(jonquilsaw_band_offer(record, 15, rows, 16, work, 8, count, 2) == 0 && count[0] == 2 && count[1] == 8 && record[9] == 2 && record[14] == 4);
+#undef KEPT
+    give_back(rows, 16);
+    give_back(work, 32);
+    give_back(kept_work, 32);
+    give_back(record, 60);
+    give_back(kept_record, 60);
+    give_back(count, 8);
+}
+
+static void bands(void) {
+    bands_counted();
+    bands_against_offers();
+    bands_of_no_record();
+    /* a crop of 7 rows behind one and before one: to 2 rows a band is due where a row is ready; to 6 the first row alone is a band; to 7 and to 9 none is */
+    const jonquilsaw_rect crop = {1, 1, 1, 7};
+    const uint32_t heights[] = {1, 2, 3, 6, 7, 9};
+    uint32_t plan[JONQUILSAW_PLAN_WORDS];
+    for (size_t i = 0; i < sizeof heights / sizeof *heights; i++) {
+        plan_in_form(plan, 5, 2, 9, crop, 1, heights[i]);
+        bands_refused(plan);
+        plan_in_form(plan, (uint32_t)i % 3, 2, 9, crop, 2, heights[i]);
+        bands_refused(plan);
+    }
+}
+
 int main(void) {
     starts();
     offers_and_takes();
@@ -1612,6 +1905,7 @@ int main(void) {
     pam();
     groups();
     badges();
+    bands();
     printf("c: %lu checks, %lu failed\n", checks, failures);
     return failures == 0 ? 0 : 1;
 }

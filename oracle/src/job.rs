@@ -26,6 +26,10 @@ pub fn group_words(jobs: usize) -> usize {
 pub enum Call {
     /// Bytes `from .. from + len` of the picture without end, and so many work values.
     Offer { from: usize, len: usize, work: usize },
+    /// The same, of the next band.
+    Band { from: usize, len: usize, work: usize },
+    /// How many rows the next band has.
+    Count,
     /// An output buffer of so many bytes, and so many work values.
     Take { out: usize, work: usize },
     /// The record's field becomes the value.
@@ -123,6 +127,8 @@ fn put_calls(f: &mut fmt::Formatter, calls: &[Call]) -> fmt::Result {
     for call in calls {
         match call {
             Call::Offer { from, len, work } => write!(f, " o {from} {len} {work}")?,
+            Call::Band { from, len, work } => write!(f, " b {from} {len} {work}")?,
+            Call::Count => write!(f, " c")?,
             Call::Take { out, work } => write!(f, " t {out} {work}")?,
             Call::Set { field, value } => write!(f, " s {field} {value}")?,
             Call::Which { which } => write!(f, " p {which}")?,
@@ -191,6 +197,8 @@ impl Words<'_> {
         while let Some(word) = self.0.next() {
             calls.push(match word {
                 "o" => Call::Offer { from: self.size()?, len: self.size()?, work: self.size()? },
+                "b" => Call::Band { from: self.size()?, len: self.size()?, work: self.size()? },
+                "c" => Call::Count,
                 "t" => Call::Take { out: self.size()?, work: self.size()? },
                 "s" => Call::Set { field: self.size()?, value: self.num()? },
                 "p" => Call::Which { which: self.size()? },

@@ -1,7 +1,7 @@
 //! Makes jobs: exhaustively for small sides, at random around every boundary. The same seed makes the same jobs.
 use crate::job::{Call, FLAG, Job, K, KIND, LANES, LAYOUT, PICTURE, PLANE, Pixels, Record, Sizes, T, planes};
 use crate::picture::{ONE_PIXEL, PATTERNS};
-use crate::{groups, table};
+use crate::{bands, groups, table};
 
 /// splitmix64.
 pub struct Random(pub u64);
@@ -32,8 +32,8 @@ impl Random {
     }
 }
 
-/// The sets of jobs, and how many of each a gate's run and a long run have; of pictures, of planes, then of groups.
-pub const SETS: [(&str, u64, u64); 28] = [
+/// The sets of jobs, and how many of each a gate's run and a long run have; of pictures, of planes, of groups, then of bands.
+pub const SETS: [(&str, u64, u64); 30] = [
     ("small", 12288, 80 * 12288),
     ("small-rows", 12288, 80 * 12288),
     ("edges", 3000, 60_000),
@@ -62,6 +62,8 @@ pub const SETS: [(&str, u64, u64); 28] = [
     ("lanes-dividers", DIVIDERS + 1200, DIVIDERS + 100_000),
     ("groups", 2000, 100_000),
     ("groups-calls", 2400, 100_000),
+    ("bands", 2000, 100_000),
+    ("bands-calls", 2400, 100_000),
 ];
 
 /// The sets of planes.
@@ -124,6 +126,8 @@ pub fn make(set: &str, i: u64, r: &mut Random) -> Job {
         "lanes-dividers" => plane_dividers(i, r),
         "groups" => groups::right(r),
         "groups-calls" => groups::wrong(i, r),
+        "bands" => bands::right(i, r),
+        "bands-calls" => bands::wrong(i, r),
         _ => panic!("no set {set}"),
     }
 }
@@ -805,16 +809,23 @@ fn three_of([w, h, tw, th]: [u32; 4], work: [usize; 3], r: &mut Random) -> Job {
     let mut calls = Vec::new();
     if table::three((w, h, tw, th), &work) == 0 {
         let bad = r.of(&[0, 0, 6]);
-        let mut each = [0, 1, 2].map(|k| calls_of(&all[k], work[k], bad, r).into_iter().peekable());
-        let mut at = 0;
-        while each.iter_mut().any(|list| list.peek().is_some()) {
-            let next = r.below(3) as usize;
-            if next != at {
-                calls.push(Call::Which { which: next });
-                at = next;
-            }
-            calls.extend(each[at].by_ref().take(r.of(&[1, 3, 50])));
-        }
+        let each = [0, 1, 2].map(|k| calls_of(&all[k], work[k], bad, r));
+        calls = mixed(each, r);
     }
     Job::Three { w, h, tw, th, work, px, calls }
+}
+
+/// The calls of three planes' jobs in one list, each job's in its order.
+pub fn mixed(lists: [Vec<Call>; 3], r: &mut Random) -> Vec<Call> {
+    let mut each = lists.map(|list| list.into_iter().peekable());
+    let (mut calls, mut at) = (Vec::new(), 0);
+    while each.iter_mut().any(|list| list.peek().is_some()) {
+        let next = r.below(3) as usize;
+        if next != at {
+            calls.push(Call::Which { which: next });
+            at = next;
+        }
+        calls.extend(each[at].by_ref().take(r.of(&[1, 3, 50])));
+    }
+    calls
 }

@@ -6,7 +6,7 @@
 //! flags there are left out of what the original judges, divider.rs judges them, and the run says how many. So it is with rows in which a scaled
 //! colour stands above its alpha, which spill.rs judges.
 use crate::divider::Corner;
-use crate::job::Job;
+use crate::job::{Call, Job};
 use crate::spill::Spill;
 use crate::{jobs, original};
 use std::collections::BTreeMap;
@@ -189,6 +189,7 @@ pub fn run(sets: &[(&str, u64)], seed: u64, commands: Commands) -> bool {
     let (mut total, mut own) = (0, 0);
     let (mut left_out, mut corner) = (0, Corner::NONE);
     let (mut spilling, mut spill) = (0, Spill::default());
+    let mut bands = Bands::default();
     let begun = Instant::now();
     for &(set, count) in sets {
         let since = Instant::now();
@@ -208,7 +209,7 @@ pub fn run(sets: &[(&str, u64)], seed: u64, commands: Commands) -> bool {
                 own += 1;
                 println!("original: {}\n  {answer}", cut(&line));
             } else {
-                tally(&job, &answer, &mut numbers);
+                tally(&job, &answer, &mut numbers, &mut bands);
             }
             let judged = Arc::new(Judged { job, line, answer, libwebp });
             for d in drivers.iter().filter(|d| d.side.takes(&judged.job)) {
@@ -243,8 +244,16 @@ pub fn run(sets: &[(&str, u64)], seed: u64, commands: Commands) -> bool {
     if !shown {
         println!("the set spills has no row in which the original's restore gives other bytes");
     }
+    let unseen = bands.unseen();
+    if bands != Bands::default() {
+        println!("{}", bands.line());
+    }
+    let all_seen = unseen.is_empty() || sets.iter().all(|set| set.0 != "bands-calls");
+    if !all_seen {
+        println!("the set bands-calls has no {}", unseen.join(", no "));
+    }
     // Half a level is what rounding to the nearest may cost.
-    let mut agree = own == 0 && shown && 2 * part <= of;
+    let mut agree = own == 0 && shown && all_seen && 2 * part <= of;
     for (side, c) in drivers.into_iter().map(Driver::finish) {
         let name = side.name();
         agree &= c.differ == 0 && (c.asked > 0 || c.sent == 0);
@@ -265,20 +274,75 @@ pub fn run(sets: &[(&str, u64)], seed: u64, commands: Commands) -> bool {
     agree
 }
 
-/// The numbers that calls are counted by: 0 to 14.
-const NUMBERS: usize = 15;
+/// The numbers that calls are counted by: 0 to 17.
+const NUMBERS: usize = 18;
+
+/// The bands of a run by their numbers, the rows that came by them, and what was told where their rows were asked for.
+#[derive(Default, PartialEq)]
+struct Bands {
+    numbers: [u64; NUMBERS],
+    rows: u64,
+    none: u64,
+    some: u64,
+    refused: u64,
+}
+
+impl Bands {
+    /// The numbers that a band can get. The table's order ends with 8, which cannot come: where all rows are accepted, R stands at the target height.
+    const NUMBERS: [usize; 5] = [0, 6, 17, 5, 7];
+
+    fn asked(&mut self, number: usize, rows: u64) {
+        match (number, rows) {
+            (0, 0) => self.none += 1,
+            (0, _) => self.some += 1,
+            _ => self.refused += 1,
+        }
+    }
+    /// What a run with wrong bands has to bring and did not.
+    fn unseen(&self) -> Vec<String> {
+        let answers = Self::NUMBERS.iter().map(|&n| (self.numbers[n], format!("band with the number {n}")));
+        let told = [(self.none, "answer of no rows"), (self.some, "answer of some rows"), (self.refused, "refused question for the rows")];
+        answers.chain(told.map(|(count, name)| (count, name.to_owned()))).filter(|(count, _)| *count == 0).map(|(_, name)| name).collect()
+    }
+    fn line(&self) -> String {
+        let numbers = Self::NUMBERS.map(|n| format!("{n}: {}", self.numbers[n])).join(", ");
+        let Bands { rows, none, some, refused, .. } = self;
+        format!("bands by number {numbers}; {rows} rows came by them; asked for their rows: {none} times none, {some} times some, {refused} times 6")
+    }
+}
 
 /// Counts the number of each call that an answer holds.
-fn tally(job: &Job, answer: &str, numbers: &mut [u64; NUMBERS]) {
+fn tally(job: &Job, answer: &str, numbers: &mut [u64; NUMBERS], bands: &mut Bands) {
     let words: Vec<&str> = answer.split(' ').collect();
-    let mut add = |w: &str| numbers[w.parse::<usize>().unwrap()] += 1;
-    add(words[0]);
-    // After the start's words, four for each call, and one at the end.
-    let start = match job {
-        Job::Rows { .. } => 2,
-        Job::Three { .. } if words[0] == "0" => 7,
-        Job::Group { .. } => 3,
+    let number = |at: usize| words[at].parse::<usize>().unwrap();
+    numbers[number(0)] += 1;
+    // After the start's words those of each call, if it was accepted, and one at the end.
+    let (mut at, calls) = match job {
+        Job::Rows { calls, .. } => (2, calls),
+        Job::Three { calls, .. } => (7, calls),
+        Job::Group { calls, .. } => (3, calls),
         _ => return,
     };
-    words[start..words.len() - 1].chunks(4).for_each(|call| add(call[0]));
+    if number(0) != 0 {
+        return;
+    }
+    for call in calls {
+        let count = match call {
+            Call::Set { .. } | Call::Which { .. } => continue,
+            Call::Count => 2,
+            Call::Offer { .. } | Call::Band { .. } | Call::Take { .. } => 4,
+        };
+        let n = number(at);
+        numbers[n] += 1;
+        match call {
+            Call::Band { .. } => {
+                bands.numbers[n] += 1;
+                bands.rows += number(at + 1) as u64;
+            }
+            Call::Count => bands.asked(n, number(at + 1) as u64),
+            _ => {}
+        }
+        at += count;
+    }
+    assert!(at + 1 == words.len(), "an answer of other words than its calls: {answer}");
 }

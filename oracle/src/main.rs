@@ -4,6 +4,7 @@
 //!   oracle jobs SET COUNT SEED            jobs on standard output
 //!   oracle judge gate|long|planes [long]|SET.. [--count N] [--seed N] [--libwebp COMMAND] [--rescaler COMMAND] [--ours COMMAND]
 //!   oracle list                           the fixed list
+mod bands;
 mod divider;
 mod error;
 mod groups;

@@ -478,7 +478,12 @@ impl Rows {
                 self.record[field] = value;
                 return Ok(String::new());
             }
+            Call::Count => {
+                let rows = if table::record_ok(&self.record) { format!("0 {}", self.next_band()?) } else { "6 0".into() };
+                return Ok(format!(" {rows}"));
+            }
             Call::Offer { from, len, work } => self.offer(from, len, work)?,
+            Call::Band { from, len, work } => self.band(from, len, work)?,
             Call::Take { out, work } => self.take(out, work)?,
             Call::Which { .. } => return Err("! no call of one job".into()),
         };
@@ -562,6 +567,34 @@ impl Rows {
         Ok(format!("{number} {count}"))
     }
 
+    /// How many rows the next band has, of a record that keeps the rules: by the table, and by the original's counters.
+    fn next_band(&self) -> Result<u32, String> {
+        let (s, k) = (Sizes::of(&self.record), self.record[K]);
+        let rows = table::band_rows(&s, k);
+        // What is above the crop never reaches a Rescaler.
+        if k >= s.y && rows != rows_before_pending(&s, table::used(&s, k), self.record[T]) {
+            return Err("! the original's counters make another band than the table".into());
+        }
+        Ok(rows)
+    }
+
+    /// Its rows are offered in order.
+    fn band(&mut self, from: usize, len: usize, work: usize) -> Answer {
+        let number = table::band(&self.record, len, work);
+        if number == 6 {
+            return Ok("6 0".into());
+        }
+        let rows = self.next_band()?;
+        if number != 0 {
+            return Ok(format!("{number} 0"));
+        }
+        let said = self.offer(from, len, work)?;
+        if said != format!("0 {rows}") {
+            return Err("! the rows of a band are not all accepted where they are offered".into());
+        }
+        Ok(said)
+    }
+
     fn take(&mut self, out: usize, work: usize) -> Answer {
         let number = table::take(&self.record, out, work);
         let mut row = fill_bytes(out);
@@ -591,6 +624,27 @@ impl Rows {
         let mut said = format!("{number} ");
         hex(&mut said, &row);
         Ok(said)
+    }
+}
+
+/// How many rows the original's Rescaler takes after u rows in and t out, once all that is pending has gone out, before the one that makes an output row pending; none
+/// where no output row is left or the height grows. It is one pixel wide: its counters are those of any width.
+fn rows_before_pending(s: &Sizes, u: u32, t: u32) -> u32 {
+    let mut scaler = Scaler::new(1, s.ch, 1, s.th, 1, 1);
+    scaler.set_phase(u, t);
+    while scaler.pending() {
+        scaler.export_at(0);
+    }
+    if scaler.done() || scaler.grows() {
+        return 0;
+    }
+    let mut rows = 0;
+    loop {
+        scaler.import_one(&[0]);
+        if scaler.pending() {
+            return rows;
+        }
+        rows += 1;
     }
 }
 
@@ -727,6 +781,7 @@ impl Group {
                     }
                     Call::Offer { from, len, work } => self.offer(from, len, work)?,
                     Call::Take { out, work } => self.take(out, work)?,
+                    Call::Band { .. } | Call::Count => return Err("! a group has no bands".into()),
                 };
                 line = line + " " + &self.line(&said);
             }

@@ -134,6 +134,33 @@ pub fn take(r: &Record, out: usize, work: usize) -> u32 {
     first(&[(out != s.row(s.tw), 4), (work < s.need(), 5), (!ready(r), 9)])
 }
 
+// ---- bands: request 9, in its own words
+
+/// "the source rows from the next one due up to, but without, the first at which R rises above R(k)": how many. Source row s brings R to R(s + 1).
+pub fn stretch(s: &Sizes, k: u32) -> u32 {
+    (k..s.h).find(|&row| made(s, row + 1) > made(s, k)).unwrap_or(s.h) - k
+}
+
+/// "while rows above the crop are still due, once R stands at the target height, or for a height that grows"
+fn no_band(s: &Sizes, k: u32) -> bool {
+    k < s.y || made(s, k) == s.th || s.th > s.ch
+}
+
+/// How many rows the next band has; 0 where there is none.
+pub fn band_rows(s: &Sizes, k: u32) -> u32 {
+    if no_band(s, k) { 0 } else { stretch(s, k) }
+}
+
+/// Order 6, 17, 5, 7, 8: "A stretch that is empty or isn't exactly those rows is 17, in the place that 3 has for an offer".
+pub fn band(r: &Record, len: usize, work: usize) -> u32 {
+    if !record_ok(r) {
+        return 6;
+    }
+    let s = Sizes::of(r);
+    let other = len != s.row(s.w) * stretch(&s, r[K]) as usize;
+    first(&[(len == 0 || other || no_band(&s, r[K]), 17), (work < s.need(), 5), (ready(r), 7), (r[K] == s.h, 8)])
+}
+
 // ---- groups: each number over all jobs before the next
 
 /// No jobs, or jobs whose source sizes, layouts, kinds or lane counts differ.

@@ -77,6 +77,17 @@ mod raw {
             count: *mut u32,
             count_count: usize,
         ) -> u32;
+        pub fn jonquilsaw_band_count(record: *const u32, record_count: usize, count: *mut u32, count_count: usize) -> u32;
+        pub fn jonquilsaw_band_offer(
+            record: *mut u32,
+            record_count: usize,
+            rows: *const u8,
+            rows_count: usize,
+            work: *mut u32,
+            work_count: usize,
+            count: *mut u32,
+            count_count: usize,
+        ) -> u32;
         pub fn jonquilsaw_take(record: *mut u32, record_count: usize, out: *mut u8, out_count: usize, work: *mut u32, work_count: usize) -> u32;
         pub fn jonquilsaw_start_group(
             plans: *const u32,
@@ -265,6 +276,33 @@ pub fn offer(record: &mut Record, rows: &[u8], work: &mut [u32]) -> Result<u32, 
     // SAFETY: `record`, `work` and `count` are exclusive borrows and `rows` is a shared one, so all are live, aligned and apart, each with its own length.
     let number = unsafe {
         raw::jonquilsaw_offer(
+            record.as_mut_ptr(),
+            record.len(),
+            rows.as_ptr(),
+            rows.len(),
+            work.as_mut_ptr(),
+            work.len(),
+            count.as_mut_ptr(),
+            count.len(),
+        )
+    };
+    answered(number).map(|()| count[0])
+}
+
+/// How many rows the next band has, 0 where there is none.
+pub fn band_count(record: &Record) -> Result<u32, u32> {
+    let mut count = [0];
+    // SAFETY: `count` is an exclusive borrow and `record` a shared one, so both are live, aligned and apart, each with its own length.
+    let number = unsafe { raw::jonquilsaw_band_count(record.as_ptr(), record.len(), count.as_mut_ptr(), count.len()) };
+    answered(number).map(|()| count[0])
+}
+
+/// How many rows were accepted: those of the band.
+pub fn band_offer(record: &mut Record, rows: &[u8], work: &mut [u32]) -> Result<u32, u32> {
+    let mut count = [0];
+    // SAFETY: `record`, `work` and `count` are exclusive borrows and `rows` is a shared one, so all are live, aligned and apart, each with its own length.
+    let number = unsafe {
+        raw::jonquilsaw_band_offer(
             record.as_mut_ptr(),
             record.len(),
             rows.as_ptr(),

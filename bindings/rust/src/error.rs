@@ -118,6 +118,13 @@ pub enum Error {
     },
     /// A background for a badge with an alpha byte other than 255.
     BackgroundNotOpaque,
+    /// Bytes that aren't exactly the rows of the next band, or where there is none. To a preview's `push_stretch` a row that comes singly is a band of one.
+    InvalidBand {
+        /// The bytes of the next band; 0 where there is none.
+        expected: usize,
+        /// The bytes there were.
+        found: usize,
+    },
 }
 
 /// What a call was given, as far as an error names it: the length that fits and the one there was. A call that takes no such thing leaves it out.
@@ -129,12 +136,13 @@ pub(crate) struct Given {
     pub lanes: u32,
     pub jobs: usize,
     pub pixels: (usize, usize),
+    pub band: (usize, usize),
     pub out: (usize, usize),
     pub work: (usize, usize),
 }
 
 impl Error {
-    /// The library's number, 1 to 16.
+    /// The library's number, 1 to 17.
     #[must_use]
     pub const fn number(self) -> u32 {
         match self {
@@ -154,6 +162,7 @@ impl Error {
             Self::GroupTooLarge { .. } => 14,
             Self::UnequalSizes { .. } => 15,
             Self::BackgroundNotOpaque => 16,
+            Self::InvalidBand { .. } => 17,
         }
     }
 
@@ -182,6 +191,7 @@ impl Error {
                 _ => unreachable!("the library answered with number {number} for sizes that are equal"),
             },
             16 => Self::BackgroundNotOpaque,
+            17 => Self::InvalidBand { expected: given.band.0, found: given.band.1 },
             // 100: a layout that is none or too short an answer, which the boundary's types leave no room for.
             _ => unreachable!("the library answered with number {number}"),
         }
@@ -216,6 +226,8 @@ impl fmt::Display for Error {
                 background.height()
             ),
             Self::BackgroundNotOpaque => f.write_str("the background is not opaque: a badge is laid on an opaque one only"),
+            Self::InvalidBand { expected: 0, .. } => f.write_str("there is no band of rows here: rows come singly"),
+            Self::InvalidBand { expected, found } => write!(f, "the next band has {expected} bytes and not {found}"),
         }
     }
 }
@@ -244,12 +256,12 @@ mod tests {
 
     fn given() -> Given {
         let sizes = Some((Dimensions::new(5, 4).unwrap(), Dimensions::new(5, 3).unwrap()));
-        Given { window: None, sizes, lanes: 5, jobs: GROUP_LIMIT + 1, pixels: (8, 7), out: (4, 5), work: (16, 3) }
+        Given { window: None, sizes, lanes: 5, jobs: GROUP_LIMIT + 1, pixels: (8, 7), band: (24, 16), out: (4, 5), work: (16, 3) }
     }
 
     #[test]
     fn variants_are_the_numbers() {
-        for number in 3..=16 {
+        for number in 3..=17 {
             assert_eq!(Error::of(number, given()).number(), number);
         }
         let size = Dimensions::new(5, 4).unwrap();
@@ -300,6 +312,8 @@ mod tests {
             (Error::of(14, given()), &format!("there are {} jobs: a group has 1 to {GROUP_LIMIT}", GROUP_LIMIT + 1)),
             (Error::of(15, given()), "the badge is 5 by 3 and the background 5 by 4: they have to be of one size"),
             (Error::of(16, given()), "the background is not opaque: a badge is laid on an opaque one only"),
+            (Error::of(17, given()), "the next band has 24 bytes and not 16"),
+            (Error::of(17, Given { band: (0, 16), ..given() }), "there is no band of rows here: rows come singly"),
         ] {
             assert_eq!(why.to_string(), said);
         }
@@ -320,6 +334,7 @@ mod tests {
             (14, ErrorKind::InvalidInput),
             (15, ErrorKind::InvalidInput),
             (16, ErrorKind::InvalidInput),
+            (17, ErrorKind::InvalidInput),
         ] {
             let why = io::Error::from(Error::of(number, given()));
             assert_eq!(why.kind(), kind);

@@ -125,6 +125,52 @@ impl Job {
         }
     }
 
+    /// How many rows the next band has, for [`Self::offer_band`]: the source rows from the next one due up to, but without, the one that makes the next preview
+    /// row ready. 0 where there is no band: that row is due itself, rows above the crop are still due, the last preview row is made, or the height grows.
+    #[must_use]
+    pub fn band_rows(&self) -> usize {
+        self.next_band() as usize
+    }
+
+    /// Offers exactly the rows of the next band, top row first, as a decoder leaves them that fills its buffer bottom-up, and returns how many they are. They
+    /// are added from last to first; the job and `work` end as they do when [`Self::offer`] takes the same rows.
+    ///
+    /// There are bands only for heights that do not grow. The row after a band, with which the next preview row is ready, comes by [`Self::offer`], and so do
+    /// the rows above and below the crop.
+    ///
+    /// # Errors
+    ///
+    /// [`Error::InvalidBand`] if `rows` isn't exactly [`Self::band_rows`] rows of [`Self::row_len`] bytes, or if there is no band; [`Error::WorkLength`];
+    /// [`Error::RowReady`] if a preview row has to be taken first. The job and `work` stay as they were.
+    ///
+    /// ```
+    /// use jonquilsaw::{Dimensions, Error, Job, Rect};
+    ///
+    /// // Grey, four rows to one: three are a band, and the fourth makes the preview row ready.
+    /// let (source, target) = (Dimensions::new(1, 4)?, Dimensions::new(1, 1)?);
+    /// let mut work = [0; 2];
+    /// let mut job = Job::start_plane(source, 1, Rect::of(source), target, &mut work)?;
+    /// assert_eq!(job.band_rows(), 3);
+    /// assert_eq!(job.offer_band(&[10, 20], &mut work), Err(Error::InvalidBand { expected: 3, found: 2 }));
+    /// assert_eq!(job.offer_band(&[10, 20, 30], &mut work), Ok(3));
+    /// assert_eq!(job.band_rows(), 0);
+    /// assert_eq!(job.offer(&[40], &mut work), Ok(1));
+    /// let mut row = [0];
+    /// job.take(&mut row, &mut work)?;
+    /// assert_eq!(row, [25]);
+    /// # Ok::<(), Error>(())
+    /// ```
+    pub fn offer_band(&mut self, rows: &[u8], work: &mut [u32]) -> Result<usize> {
+        match boundary::band_offer(&mut self.record, rows, work) {
+            Ok(count) => Ok(count as usize),
+            // Turned away, the job is as it was, and so is its next band.
+            Err(number) => {
+                let band = (self.band_rows() * self.row_len(), rows.len());
+                Err(Error::of(number, Given { band, work: (self.work_len(), work.len()), ..Given::default() }))
+            }
+        }
+    }
+
     /// Takes the next preview row.
     ///
     /// # Errors
@@ -243,6 +289,11 @@ impl Job {
         self.taken() == self.record[8]
     }
 
+    /// [`Self::band_rows`] as the library counts them.
+    pub(crate) fn next_band(&self) -> u32 {
+        boundary::band_count(&self.record).expect("a job's record keeps the rules")
+    }
+
     /// A job of a record that the library wrote.
     pub(crate) const fn of_fresh(record: Record) -> Self {
         Self { record }
@@ -323,6 +374,76 @@ mod tests {
         job.take(&mut out[..4], &mut work).unwrap();
         assert_eq!(job.offer(&rows, &mut work), Err(Error::AllAccepted));
         refused(&mut job, &mut out, &mut work, false);
+    }
+
+    /// 1 by 9, its rows 1 to 7 to two: rows 1 to 3 are a band, row 4 makes the first preview row ready, 5 and 6 are a band, row 7 makes the second ready.
+    #[test]
+    fn every_band_refused_leaves_all_as_it_was() {
+        let (source, crop) = (Dimensions::new(1, 9).unwrap(), Rect::new(0, 1, 1, 7));
+        let mut work = [7; 9];
+        let mut job = Job::start(source, PixelLayout::Argb8, crop, Dimensions::new(1, 2).unwrap(), &mut work).unwrap();
+        let rows: Vec<u8> = (0..40_u8).map(|i| i.wrapping_mul(37)).collect();
+        let too_few = Error::WorkLength { expected: 8, found: 7 };
+        // Whatever is lent but the band is 17, ahead of too few work values and of a row that is ready; the band itself is `why` then.
+        let refused = |job: &mut Job, work: &mut [u32; 9], band: usize, why: Option<Error>| {
+            let before = (job.clone(), *work);
+            assert_eq!(job.band_rows(), band);
+            for found in (0..=40).filter(|&found| band == 0 || found != 4 * band) {
+                for values in [0, 7, 8, 9] {
+                    assert_eq!(job.offer_band(&rows[..found], &mut work[..values]), Err(Error::InvalidBand { expected: 4 * band, found }));
+                }
+            }
+            if band > 0 {
+                assert_eq!(job.offer_band(&rows[..4 * band], &mut work[..7]), Err(too_few));
+            }
+            if let Some(why) = why {
+                assert_eq!(job.offer_band(&rows[..4 * band], work), Err(why));
+            }
+            assert!(before == (job.clone(), *work));
+        };
+        // The same rows by an offer leave the same.
+        let accepted = |job: &mut Job, work: &mut [u32; 9], band: usize| {
+            let (mut other, mut other_work) = (job.clone(), *work);
+            assert_eq!(job.offer_band(&rows[..4 * band], work), Ok(band));
+            assert_eq!(other.offer(&rows[..4 * band], &mut other_work), Ok(band));
+            assert!((&*job, *work) == (&other, other_work) && job.ready() == 0);
+        };
+        // Above the crop, at its first row, before and at the row that makes one ready.
+        refused(&mut job, &mut work, 0, None);
+        assert_eq!(job.offer(&rows[..4], &mut work), Ok(1));
+        refused(&mut job, &mut work, 3, None);
+        accepted(&mut job, &mut work, 3);
+        refused(&mut job, &mut work, 0, None);
+        assert_eq!(job.offer(&rows[..4], &mut work), Ok(1));
+        refused(&mut job, &mut work, 2, Some(Error::RowReady));
+        job.take(&mut [0; 4], &mut work).unwrap();
+        // A band's rest is a band.
+        let (mut singly, mut singly_work) = (job.clone(), work);
+        assert_eq!(singly.offer(&rows[..4], &mut singly_work), Ok(1));
+        refused(&mut singly, &mut singly_work, 1, None);
+        accepted(&mut singly, &mut singly_work, 1);
+        accepted(&mut job, &mut work, 2);
+        assert_eq!(job.offer(&rows[..4], &mut work), Ok(1));
+        // The last row is made: ready, taken, and below the crop.
+        refused(&mut job, &mut work, 0, None);
+        job.take(&mut [0; 4], &mut work).unwrap();
+        refused(&mut job, &mut work, 0, None);
+        assert_eq!((job.offer(&rows[..4], &mut work), job.accepted()), (Ok(1), 9));
+        refused(&mut job, &mut work, 0, None);
+        // A height that stays and one that grows have no band, at any row.
+        for height in [7, 8, 16] {
+            let mut job = Job::start(source, PixelLayout::Argb8, crop, Dimensions::new(1, height).unwrap(), &mut work).unwrap();
+            while job.accepted() < 9 {
+                refused(&mut job, &mut work, 0, None);
+                job.offer(&rows[..4], &mut work).unwrap();
+                while job.ready() > 0 {
+                    refused(&mut job, &mut work, 0, None);
+                    job.take(&mut [0; 4], &mut work).unwrap();
+                }
+            }
+            refused(&mut job, &mut work, 0, None);
+        }
+        assert_eq!(work[8], 7);
     }
 
     #[test]

@@ -10,6 +10,8 @@
 //! - [`Image::lay_badge`] and [`lay_badge`] lay a translucent picture on an opaque one of the same size.
 //! - [`Job`] is the library's own job over lent buffers: whole rows in by [`Job::offer`], a row out by [`Job::take`], no heap. [`Group`] is several of them over the
 //!   same source, each made by a [`Plan`].
+//! - [`Preview::push_stretch`] and [`Job::offer_band`] take the rows of a band at once, from a decoder that fills its buffer bottom-up. There are bands only for
+//!   heights that do not grow; rows above the crop come singly.
 //! - [`Preview::plane`] and [`Job::start_plane`] scale a plane of 1 to 4 lanes; [`Preview::planes`] and [`Planes`] scale luma and both chroma planes of a
 //!   4:2:0 picture.
 //! - [`pam`] reads and writes netpbm's PAM pictures, whole or in pieces.

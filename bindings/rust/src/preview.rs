@@ -7,6 +7,7 @@ use crate::job::Job;
 use crate::planes::Planes;
 use std::fmt;
 use std::io::{self, Write};
+use std::ops::Range;
 
 /// Why a [`Preview`] or a [`GroupPreview`](crate::GroupPreview) did not take bytes, or is not finished. Nothing is lost by it: what was taken stays, and it can
 /// go on.
@@ -24,7 +25,7 @@ pub enum PreviewError {
         /// The bytes that have not arrived.
         missing: usize,
     },
-    /// A size, a window or a length that the library refuses. No call on a preview says so; making one may.
+    /// A size, a window or a length that the library refuses. Making a preview may say so; of the calls on one, [`Preview::push_stretch`] alone.
     Refused(Error),
 }
 
@@ -130,7 +131,8 @@ enum Next {
 /// Source rows that come whole are not copied.
 ///
 /// [`push`](Self::push) takes bytes up to where a preview row is ready; [`next_row`](Self::next_row) hands the row out. [`feed`](Self::feed) does both for a
-/// whole piece; [`PreviewWriter`] does so as a [`Write`].
+/// whole piece; [`PreviewWriter`] does so as a [`Write`]. [`push_stretch`](Self::push_stretch) takes several rows at once from a decoder that fills its buffer
+/// bottom-up.
 ///
 /// ```
 /// use jonquilsaw::{Dimensions, PixelLayout, Preview, PreviewError, Rect};
@@ -277,6 +279,81 @@ impl Preview {
             }
             taken += self.push(&bytes[taken..])?;
         }
+    }
+
+    /// The source rows to lend next to [`push_stretch`](Self::push_stretch): those of the next band, or a single row where there is none. Empty once all have
+    /// come, and while a row has come in part by [`push`](Self::push), which takes the rest of it.
+    ///
+    /// A band is the rows from the next one due up to, but without, the one that makes the next preview row ready. There are bands only for heights that do not
+    /// grow; rows above the crop come singly, and so do those below it. Preview rows that are ready need not be handed out before this is asked.
+    #[must_use]
+    pub fn stretch(&self) -> Range<u32> {
+        let from = self.job.accepted();
+        if self.partial.len() > 0 || from == self.job.source().height() {
+            return from..from;
+        }
+        from..from + self.job.next_band().max(1)
+    }
+
+    /// Takes exactly the rows of [`stretch`](Self::stretch), top row first, as a decoder leaves them that fills its buffer bottom-up: a band is added from last
+    /// to first. They are not copied, and the preview is the same as by [`push`](Self::push), which may come in between.
+    ///
+    /// # Errors
+    ///
+    /// [`PreviewError::RowReady`] if a preview row is ready, as [`push`](Self::push) says it first; [`PreviewError::TooManyBytes`] if the whole source has
+    /// come, of an empty stretch too; [`Error::InvalidBand`] in [`PreviewError::Refused`] if `rows` isn't exactly these rows, or if a row has come in part,
+    /// which expects 0 bytes. No row is taken then.
+    ///
+    /// ```
+    /// use jonquilsaw::{Dimensions, PixelLayout, Preview, Rect};
+    /// # use std::ops::Range;
+    /// # struct Decoder;
+    /// # impl Decoder {
+    /// #     fn fill(&self, rows: Range<u32>, buffer: &mut Vec<u8>) {
+    /// #         buffer.resize(4 * rows.len(), 255);
+    /// #         for (row, pixel) in rows.zip(buffer.chunks_exact_mut(4)).rev() {
+    /// #             pixel[..3].fill(10 * row.to_le_bytes()[0]);
+    /// #         }
+    /// #     }
+    /// # }
+    /// # let decoder = Decoder;
+    ///
+    /// // Grey, darkest at the top, four rows to one.
+    /// let source = Dimensions::new(1, 4)?;
+    /// let mut preview = Preview::new(source, PixelLayout::Rgba8, Rect::of(source), Dimensions::new(1, 1)?)?;
+    /// let (mut buffer, mut made) = (Vec::new(), Vec::new());
+    /// while !preview.stretch().is_empty() {
+    ///     let rows = preview.stretch(); // 0..3, then 3..4
+    ///     decoder.fill(rows, &mut buffer); // from its end
+    ///     preview.push_stretch(&buffer)?;
+    ///     while let Some(row) = preview.next_row() {
+    ///         made.extend_from_slice(row);
+    ///     }
+    /// }
+    /// assert_eq!(made, [15, 15, 15, 255]);
+    /// assert_eq!(preview.finish(), Ok(false));
+    /// # Ok::<(), Box<dyn std::error::Error>>(())
+    /// ```
+    pub fn push_stretch(&mut self, rows: &[u8]) -> Result<(), PreviewError> {
+        if self.holds_row() {
+            return Err(PreviewError::RowReady);
+        }
+        if self.missing() == 0 {
+            return Err(PreviewError::TooManyBytes);
+        }
+        let due = self.stretch().len();
+        let expected = due * self.job.row_len();
+        if due == 0 || rows.len() != expected {
+            return Err(PreviewError::Refused(Error::InvalidBand { expected, found: rows.len() }));
+        }
+        self.next = Next::Unknown;
+        // A single row is no band, or a band of one, which an offer takes alike.
+        if due == 1 {
+            self.job.offer(rows, &mut self.work)?
+        } else {
+            self.job.offer_band(rows, &mut self.work)?
+        };
+        Ok(())
     }
 
     /// Whether every preview row was handed out. Bytes below the crop may still be missing; they change nothing.

@@ -50,6 +50,22 @@ fn one_source_row_the_work_rows_and_one_preview_row() {
 }
 
 #[test]
+fn a_stretch_is_not_copied() {
+    let (source, target) = (Dimensions::new(1000, 300).unwrap(), Dimensions::new(500, 9).unwrap());
+    let stretch = vec![77; 33 * source.row_len()];
+    let mut preview = Preview::new(source, PixelLayout::Rgba8, Rect::of(source), target).unwrap();
+    let before = allocated();
+    let mut rows = 0;
+    while !preview.stretch().is_empty() {
+        preview.push_stretch(&stretch[..preview.stretch().len() * source.row_len()]).unwrap();
+        while preview.next_row().is_some() {
+            rows += 1;
+        }
+    }
+    assert_eq!((rows, preview.finish(), allocated() - before), (9, Ok(true), 0));
+}
+
+#[test]
 fn a_plane_takes_its_own_lanes() {
     let (source, target) = (Dimensions::new(16384, 30).unwrap(), Dimensions::new(500, 9).unwrap());
     for lanes in 1..=4 {

@@ -4,9 +4,7 @@ use Prim.Native.Nat.{ℕ, _≤_}
 use mathlib.Core.Path.{_≡_, sym, _∙_}
 use mathlib.Core.Bool.{Bool, false}
 use mathlib.Core.List.{List}
-use lib.Dec.{ltb}
 use lib.ListN.{length}
-use borrow.Author.Tests.{le-ltb}
 use Rattle.pixels.specs.declared.Refusal.{Refusal}
 use Rattle.pixels.specs.declared.Refusal.the-variants.{InvalidRecord}
 use Rattle.pixels.specs.Refusals.{number, bufferIf}
@@ -27,7 +25,9 @@ use Rattle.capi_record.specs.declared.Told.{Told}
 use Rattle.capi_record.specs.declared.Told.the-variants as told
 use Rattle.capi_record.specs.Record.{wordsJob, toldBy, storedJob, recordFirst}
 use Rattle.capi_words.specs.Boundary.{boundaryFirst, storedWord}
-use Rattle.capi_record.proofs.Records.{job-legal, none-legal}
+use Rattle.capi_record.proofs.Records.{job-legal}
+use Rattle.capi_record.proofs.Offers as offers
+use Rattle.capi_record.proofs.Offers.{no-record}
 use Rattle.capi_words.proofs.Boundary.{kept-by, written-by, written-once, passed, buffer-told}
 use Rattle.capi_jobs.specs.Jobs.{numberOfOffer, recordAfterOffer, workAfterOffer, countAfterOffer, numberOfTake, recordAfterTake, outAfterTake, workAfterTake}
 
@@ -60,24 +60,51 @@ module _ (p : Plan) (work words next : List ℕ) (answer : Started) {t b : Bool}
       let q : job ≡ fresh p = rw a at j in
       (z, (start-work, written-by n words′ _ words z (rw q at s)))
 
--- ---- words that make no record
-pub no-record : (words : List ℕ) (n r : ℕ) {t : Told} → t ≡ toldBy words → t ≡ told.Nothing → r ≡ number InvalidRecord → r ≡ recordFirst words n
-no-record words n r e f h = h ∙ simp (none-legal words (sym e ∙ f))
+-- ---- offer
+module _ (words rows work count : List ℕ) (lent : 1 ≤ length count) where
+  abbrev number-of : Job → ℕ
+  number-of j = offerNumber j (length rows) (length work)
 
-pub one-lent : (lent n : ℕ) → 1 ≤ lent → n ≡ boundaryFirst (ltb lent 1) n
-one-lent lent n h = simp (le-ltb lent 1 h)
+  abbrev rows-of : Job → ℕ
+  rows-of j = offerRows j (length rows) (length work)
 
-pub offer-no-record : (words rows work count : List ℕ) (r : ℕ) {t : Told} → 1 ≤ length count → t ≡ toldBy words → t ≡ told.Nothing → r ≡ number InvalidRecord
-    → (r ≡ numberOfOffer words (length rows) (length work) (length count))
-    × ((words ≡ recordAfterOffer words (length rows) (length work) (length count))
-    × ((work ≡ workAfterOffer words rows work (length count)) × (count ≡ countAfterOffer words (length rows) (length work) count)))
-unfolding numberOfOffer recordAfterOffer workAfterOffer countAfterOffer
-offer-no-record words rows work count r lent e f h =
-    let x = offerNumber (wordsJob words) (length rows) (length work) in
-    let z : r ≡ boundaryFirst (ltb (length count) 1) (recordFirst words x) = no-record words x r e f h ∙ one-lent (length count) (recordFirst words x) lent in
-    let k = sym z ∙ h in
-    (z, (kept-by InvalidRecord _ _ words k, (kept-by InvalidRecord _ _ work k, kept-by InvalidRecord _ _ count k)))
+  abbrev next-of : Job → Job
+  next-of j = offerJob j (length rows) (length work)
 
+  abbrev work-of : Job → List ℕ
+  work-of j = offerWork j rows work
+
+  pub offer-no-record : (r : ℕ) {t : Told} → t ≡ toldBy words → t ≡ told.Nothing → r ≡ number InvalidRecord
+      → (r ≡ numberOfOffer words (length rows) (length work) (length count))
+      × ((words ≡ recordAfterOffer words (length rows) (length work) (length count))
+      × ((work ≡ workAfterOffer words rows work (length count)) × (count ≡ countAfterOffer words (length rows) (length work) count)))
+  unfolding numberOfOffer recordAfterOffer workAfterOffer countAfterOffer
+  offer-no-record r e f h = offers.none-told words work count lent number-of rows-of next-of work-of r e f h
+
+  -- to the job j that the words tell
+  module _ (j : Job) {t : Told} (e : t ≡ toldBy words) (f : t ≡ told.Job j) (answer : Offered) (m : offeredNumber answer ≡ number-of j)
+      (next : List ℕ) (w : next ≡ offerWork j rows work) where
+    once : next ≡ bufferIf (number-of j) (work-of j) work
+    unfolding offerWork
+    once = w ∙ written-once (number-of j) _ work
+
+    pub offer-refused : (why : Refusal) (job : Job) (r : ℕ) → answer ≡ offered.Refused why job → r ≡ number why
+        → (r ≡ numberOfOffer words (length rows) (length work) (length count))
+        × ((words ≡ recordAfterOffer words (length rows) (length work) (length count))
+        × ((next ≡ workAfterOffer words rows work (length count)) × (count ≡ countAfterOffer words (length rows) (length work) count)))
+    unfolding numberOfOffer recordAfterOffer workAfterOffer countAfterOffer
+    offer-refused why job r a h = offers.offer-refused words work count lent number-of rows-of next-of work-of j e f answer m next once why job r a h
+
+    pub offer-accepted : (n : ℕ) (job : Job) (words′ count′ : List ℕ) → answer ≡ offered.Accepted n job → offeredRows answer ≡ rows-of j
+        → offeredJob answer ≡ next-of j → words′ ≡ storedJob job words → count′ ≡ storedWord n count
+        → (0 ≡ numberOfOffer words (length rows) (length work) (length count))
+        × ((words′ ≡ recordAfterOffer words (length rows) (length work) (length count))
+        × ((next ≡ workAfterOffer words rows work (length count)) × (count′ ≡ countAfterOffer words (length rows) (length work) count)))
+    unfolding numberOfOffer recordAfterOffer workAfterOffer countAfterOffer
+    offer-accepted n job words′ count′ a c o s u =
+        offers.offer-accepted words work count lent number-of rows-of next-of work-of j e f answer m next once n job words′ count′ a c o s u
+
+-- ---- take
 pub take-no-record : (words out work : List ℕ) (r : ℕ) {t : Told} → t ≡ toldBy words → t ≡ told.Nothing → r ≡ number InvalidRecord
     → (r ≡ numberOfTake words (length out) (length work))
     × ((words ≡ recordAfterTake words (length out) work) × ((out ≡ outAfterTake words out work) × (work ≡ workAfterTake words (length out) work)))
@@ -86,45 +113,6 @@ take-no-record words out work r e f h =
     let z : r ≡ recordFirst words (takeNumber (wordsJob words) (length out) (length work)) = no-record words _ r e f h in
     let k = sym z ∙ h in
     (z, (kept-by InvalidRecord _ _ words k, (kept-by InvalidRecord _ _ out k, kept-by InvalidRecord _ _ work k)))
-
--- ---- offer to the job j that the words tell
-module _ (words rows work count next : List ℕ) (j : Job) {t : Told} (e : t ≡ toldBy words) (f : t ≡ told.Job j) (lent : 1 ≤ length count) (answer : Offered)
-    (m : offeredNumber answer ≡ offerNumber j (length rows) (length work)) (w : next ≡ offerWork j rows work) where
-  same : j ≡ wordsJob words
-  same = sym (job-legal words j (sym e ∙ f) .1)
-
-  number-is : offerNumber j (length rows) (length work) ≡ numberOfOffer words (length rows) (length work) (length count)
-  unfolding numberOfOffer
-  number-is =
-      let l = job-legal words j (sym e ∙ f) in
-      simp (le-ltb (length count) 1 lent, l .0, l .1)
-
-  work-is : next ≡ workAfterOffer words rows work (length count)
-  unfolding workAfterOffer offerWork
-  work-is =
-      let x = offerNumber j (length rows) (length work) in
-      rw (← same) (buffer-told _ x next _ work number-is (w ∙ written-once x _ work))
-
-  pub offer-refused : (why : Refusal) (job : Job) (r : ℕ) → answer ≡ offered.Refused why job → r ≡ number why
-      → (r ≡ numberOfOffer words (length rows) (length work) (length count))
-      × ((words ≡ recordAfterOffer words (length rows) (length work) (length count))
-      × ((next ≡ workAfterOffer words rows work (length count)) × (count ≡ countAfterOffer words (length rows) (length work) count)))
-  unfolding recordAfterOffer countAfterOffer
-  offer-refused why job r a h =
-      let z : number why ≡ numberOfOffer words (length rows) (length work) (length count) = (rw a at m) ∙ number-is in
-      (h ∙ z, (kept-by why _ _ words (sym z), (work-is, kept-by why _ _ count (sym z))))
-
-  pub offer-accepted : (n : ℕ) (job : Job) (words′ count′ : List ℕ) → answer ≡ offered.Accepted n job → offeredRows answer ≡ offerRows j (length rows) (length work)
-      → offeredJob answer ≡ offerJob j (length rows) (length work) → words′ ≡ storedJob job words → count′ ≡ storedWord n count
-      → (0 ≡ numberOfOffer words (length rows) (length work) (length count))
-      × ((words′ ≡ recordAfterOffer words (length rows) (length work) (length count))
-      × ((next ≡ workAfterOffer words rows work (length count)) × (count′ ≡ countAfterOffer words (length rows) (length work) count)))
-  unfolding recordAfterOffer countAfterOffer
-  offer-accepted n job words′ count′ a c o s u =
-      let z : 0 ≡ numberOfOffer words (length rows) (length work) (length count) = (rw a at m) ∙ number-is in
-      let x : n ≡ offerRows (wordsJob words) (length rows) (length work) = rw (a, same) at c in
-      let y : job ≡ offerJob (wordsJob words) (length rows) (length work) = rw (a, same) at o in
-      (z, (written-by _ words′ _ words z (rw y at s), (work-is, written-by _ count′ _ count z (rw x at u))))
 
 -- ---- take from the job j that the words tell
 module _ (words out work out′ work′ : List ℕ) (j : Job) {t : Told} (e : t ≡ toldBy words) (f : t ≡ told.Job j) (answer : Taken)

@@ -9,7 +9,7 @@ use borrow.Author.Tests.{ne-eqb}
 use lib.ListN.{getD}
 use Rattle.pixels.specs.declared.Dimensions.{Dimensions}
 use Rattle.pixels.specs.declared.Refusal.{Refusal}
-use Rattle.pixels.specs.declared.Refusal.the-variants.{InvalidDimensions, CropOutOfBounds, PixelBufferMismatch, OutputLength, WorkLength, InvalidRecord, RowReady, AllAccepted, NoneReady, InvalidLanes, PamMalformed, PamUnsupported, InvalidGroup, GroupTooLarge, UnequalSizes, BackgroundNotOpaque}
+use Rattle.pixels.specs.declared.Refusal.the-variants.{InvalidDimensions, CropOutOfBounds, PixelBufferMismatch, OutputLength, WorkLength, InvalidRecord, RowReady, AllAccepted, NoneReady, InvalidLanes, PamMalformed, PamUnsupported, InvalidGroup, GroupTooLarge, UnequalSizes, BackgroundNotOpaque, InvalidBand}
 use Rattle.pixels.specs.declared.Checked.{Checked}
 use Rattle.pixels.specs.declared.Checked.the-variants.{Fit, Refused}
 use Rattle.pixels.specs.Refusals.{number, checkedNumber, noSize, sizeIf, flagIf, bufferIf}
@@ -17,7 +17,7 @@ use Rattle.pixels.specs.Refusals.{number, checkedNumber, noSize, sizeIf,
 -- the cause of a number
 unfoldable named : ℕ → Refusal
 named n =
-    getD (InvalidDimensions ∷ InvalidDimensions ∷ CropOutOfBounds ∷ PixelBufferMismatch ∷ OutputLength ∷ WorkLength ∷ InvalidRecord ∷ RowReady ∷ AllAccepted ∷ NoneReady ∷ InvalidLanes ∷ PamMalformed ∷ PamUnsupported ∷ InvalidGroup ∷ GroupTooLarge ∷ UnequalSizes ∷ BackgroundNotOpaque ∷ []) n InvalidDimensions
+    getD (InvalidDimensions ∷ InvalidDimensions ∷ CropOutOfBounds ∷ PixelBufferMismatch ∷ OutputLength ∷ WorkLength ∷ InvalidRecord ∷ RowReady ∷ AllAccepted ∷ NoneReady ∷ InvalidLanes ∷ PamMalformed ∷ PamUnsupported ∷ InvalidGroup ∷ GroupTooLarge ∷ UnequalSizes ∷ BackgroundNotOpaque ∷ InvalidBand ∷ []) n InvalidDimensions
 
 named-number : (why : Refusal) → named (number why) ≡ why
 unfolding named
@@ -37,6 +37,7 @@ named-number InvalidGroup = refl
 named-number GroupTooLarge = refl
 named-number UnequalSizes = refl
 named-number BackgroundNotOpaque = refl
+named-number InvalidBand = refl
 
 pub number-injective : (a b : Refusal) → number a ≡ number b → a ≡ b
 number-injective a b e = sym (named-number a) ∙ ap named e ∙ named-number b
@@ -58,6 +59,7 @@ number-pos InvalidGroup = lit< tt
 number-pos GroupTooLarge = lit< tt
 number-pos UnequalSizes = lit< tt
 number-pos BackgroundNotOpaque = lit< tt
+number-pos InvalidBand = lit< tt
 
 -- an end in itself: an answer is known by its number, so a contract that tells the number tells the answer
 pub checked-is : (a b : Checked) → checkedNumber a ≡ checkedNumber b → a ≡ b

@@ -5,7 +5,7 @@ use mathlib.Core.List.{List, [], _∷_}
 use lib.Dec.{eqb, ltb}
 use Rattle.pixels.specs.declared.Dimensions.{Dimensions}
 use Rattle.pixels.specs.declared.Refusal.{Refusal}
-use Rattle.pixels.specs.declared.Refusal.the-variants.{InvalidDimensions, CropOutOfBounds, PixelBufferMismatch, OutputLength, WorkLength, InvalidRecord, RowReady, AllAccepted, NoneReady, InvalidLanes, PamMalformed, PamUnsupported, InvalidGroup, GroupTooLarge, UnequalSizes, BackgroundNotOpaque}
+use Rattle.pixels.specs.declared.Refusal.the-variants.{InvalidDimensions, CropOutOfBounds, PixelBufferMismatch, OutputLength, WorkLength, InvalidRecord, RowReady, AllAccepted, NoneReady, InvalidLanes, PamMalformed, PamUnsupported, InvalidGroup, GroupTooLarge, UnequalSizes, BackgroundNotOpaque, InvalidBand}
 use Rattle.pixels.specs.declared.Checked.{Checked}
 use Rattle.pixels.specs.declared.Checked.the-variants as checked
 use Rattle.pixels.specs.declared.Sized.{Sized}
@@ -31,6 +31,7 @@ number InvalidGroup = 13
 number GroupTooLarge = 14
 number UnequalSizes = 15
 number BackgroundNotOpaque = 16
+number InvalidBand = 17
 
 -- ---- causes in their order
 

@@ -62,6 +62,8 @@ pub enum Refusal {
     UnequalSizes,
     // a background with an alpha byte other than 255
     BackgroundNotOpaque,
+    // a stretch that isn't exactly the rows of the next band, or where there is none
+    InvalidBand,
 }
 
 // Whether what was asked may be done, or why not.

@@ -25,6 +25,7 @@ impl Refusal {
             Refusal::GroupTooLarge => 14,
             Refusal::UnequalSizes => 15,
             Refusal::BackgroundNotOpaque => 16,
+            Refusal::InvalidBand => 17,
         }
     }
 }

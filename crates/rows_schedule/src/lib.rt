@@ -1,8 +1,9 @@
 // How many output rows a number of crop rows makes (SCOPE, "The job"; libwebp: utils/rescaler_utils.c).
 // Every function answers for all arguments. A crop height of 0, which no job has, gets what the definition says with the library's x / 0 = 0.
 ghost use mathlib.Core.Path.{_≡_};
-ghost use Prim.Native.Nat.{_-_};
-ghost use Rattle.rows_schedule.specs.Schedule.{used, made, rowsBy, countsFit};
+ghost use Prim.Native.Nat.{_-_, _≤_};
+ghost use Rattle.arithmetic.specs.Quotient.{ceil};
+ghost use Rattle.rows_schedule.specs.Schedule.{used, made, rowsBy, countsFit, needed};
 
 // u: how many crop rows are among the first source rows, `accepted` of them.
 // Rules out: a count that runs on below the crop; one that starts at the picture's top.
@@ -57,6 +58,28 @@ fn less_one(k: u32) -> u32
         return 0;
     }
     k - 1
+}
+
+// x / d rounded up; 0 for d = 0. No product of two words, with a word added, is too large for it.
+fn rounded_up(x: u64, d: u32) -> u64
+    requires { ⌜ x ≤ 0xffff_ffff_0000_0000 ⌝ }
+    ensures { λ r. ⌜ r ≡ ceil x d ⌝ }
+{
+    if d == 0 {
+        return 0;
+    }
+    (x + (d - 1) as u64) / d as u64
+}
+
+// U of an output row: how many crop rows it needs, the least whose R is above it.
+// Rules out: the row before asked for; a growing height that needs a crop row more.
+pub fn needed_rows(height: u32, target: u32, row: u32) -> u64
+    ensures { λ r. ⌜ r ≡ needed height target row ⌝ }
+{
+    if target <= height {
+        return rounded_up((row as u64 + 1) * height as u64, target);
+    }
+    1 + rounded_up(row as u64 * less_one(height) as u64, less_one(target))
 }
 
 // The counts that calls can reach: k ≤ source height, R(k-1) ≤ t ≤ R(k).

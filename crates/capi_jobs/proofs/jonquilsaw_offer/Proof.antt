@@ -36,7 +36,7 @@ returns-2 c =
     let g = c .before .before .before .before .before .before .before .before .before .before .args in
     let told = c .before .before .before .read-job .ensures in
     let lent = c .before .before .before .before .before .if1 .left in
-    offer-no-record (g .«record» .now) (g .rows .now) (g .work .now) (g .count .now) (c .number .result) lent told (c .before .enum-told .given .1) (c .number .ensures)
+    offer-no-record (g .«record» .now) (g .rows .now) (g .work .now) (g .count .now) lent (c .number .result) told (c .before .enum-told .given .1) (c .number .ensures)
 
 offer-requires : tie.Need-offer-requires
 offer-requires c κs = search needs
@@ -73,8 +73,8 @@ returns-3 c =
     let o = b .offer .ensures in
     let j = b .before .before .before .told .given in
     let why = c .before .before .answer .given in
-    offer-refused (g .«record» .now) (g .rows .now) (g .work .now) (g .count .now) _ (j .0 .0) (d .read-job .ensures) (j .1) (d .before .before .if1 .left)
-    (b .offer .result) (o .0) (o .1 .1 .1) (why .0 .0) _ (c .number2 .result) (why .1) (c .number2 .ensures)
+    offer-refused (g .«record» .now) (g .rows .now) (g .work .now) (g .count .now) (d .before .before .if1 .left) (j .0 .0) (d .read-job .ensures) (j .1)
+    (b .offer .result) (o .0) _ (o .1 .1 .1) (why .0 .0) _ (c .number2 .result) (why .1) (c .number2 .ensures)
 
 same-length-4 : tie.Need-same-length-4
 same-length-4 c = search needs
@@ -93,8 +93,8 @@ returns-4 c =
     let o = b .offer .ensures in
     let j = b .before .before .before .told .given in
     let a = c .before .before .before .before .before .before .before .before .before .before .answer2 .given in
-    offer-accepted (g .«record» .now) (g .rows .now) (g .work .now) (g .count .now) _ (j .0 .0) (d .read-job .ensures) (j .1) (d .before .before .if1 .left)
-    (b .offer .result) (o .0) (o .1 .1 .1) _ _ _ _ (a .1) (o .1 .0) (o .1 .1 .0) (c .before .before .before .before .before .before .before .store-job .ensures) (c .before .before .store .ensures)
+    offer-accepted (g .«record» .now) (g .rows .now) (g .work .now) (g .count .now) (d .before .before .if1 .left) (j .0 .0) (d .read-job .ensures) (j .1)
+    (b .offer .result) (o .0) _ (o .1 .1 .1) _ _ _ _ (a .1) (o .1 .0) (o .1 .1 .0) (c .before .before .before .before .before .before .before .store-job .ensures) (c .before .before .store .ensures)
 
 pub jonquilsaw-offer-spec : {M : Type 1} → statement M
 jonquilsaw-offer-spec =

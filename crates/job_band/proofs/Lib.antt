@@ -1,0 +1,12 @@
+pub mod Stretching
+pub mod Summing
+pub mod Feeding
+pub mod Testing
+pub mod AnyOrder
+pub mod SecondHalf
+pub mod Adding
+pub mod Answering
+pub mod Views
+pub mod Trials
+pub mod Singly
+pub mod Theorem
