@@ -1,5 +1,7 @@
 // Fixed-point arithmetic of libwebp's rescaler (SCOPE, "Fixed point and matting"; the Rust: geometry.rs).
 // Every function answers for all arguments.
+#![tactic(auto)]
+
 mod matting;
 
 ghost use Rattle.std.specs.Prelude.{◌≡◌};

@@ -1,5 +1,7 @@
 // Lays badges on backgrounds: six pixels in every pair of layouts, then what is refused. Of each call its number and the background afterwards, a pixel's bytes to a
 // line, in hexadecimal. The file `stdout` holds what tests/badge_model.py says.
+#![tactic(auto)]
+
 use pixels::{Checked, Dimensions};
 use pixels_layout::PixelLayout;
 

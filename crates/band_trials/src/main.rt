@@ -1,6 +1,8 @@
 // Feeds five small jobs, each twice. First by single rows: before each and after it, how many rows the next band has and what a band of a row less, of these rows, of a
 // row more, and of these rows with a work value too few is answered. Then by bands, each with the work values after it, and the row that follows it. The file `stdout`
 // holds what tests/band_model.py says.
+#![tactic(auto)]
+
 ghost use Rattle.std.specs.Prelude.{◌≤◌};
 
 use job::{Job, Offered, Taken};

@@ -1,4 +1,6 @@
 // The library for C (include/jonquilsaw.h), the calls of a band: numbers and slices only, as capi_jobs has them.
+#![tactic(auto)]
+
 ghost use Rattle.std.specs.Prelude.{◌≡◌, length};
 ghost use Rattle.capi_bands.specs.Bands.{number_of_count, count_after_count, number_of_band, record_after_band, work_after_band, count_after_band};
 

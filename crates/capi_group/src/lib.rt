@@ -1,6 +1,8 @@
 // The library for C (include/jonquilsaw.h), the calls of a group: numbers and slices only. In C a slice is a pointer, then a count of elements.
 // Every function answers for all arguments: 0 where the call was accepted, SCOPE's number where it was refused, and BOUNDARY for what only
 // this boundary can be asked, tested first.
+#![tactic(auto)]
+
 ghost use Rattle.std.specs.Prelude.{◌≡◌, length};
 ghost use Rattle.capi_group.specs.GroupCalls.{number_of_start_group, work_after_start_group, record_after_start_group, number_of_offer_group, record_after_offer_group, work_after_offer_group, accepted_after_offer_group, number_of_take_group, record_after_take_group, out_after_take_group, work_after_take_group};
 

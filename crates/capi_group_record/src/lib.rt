@@ -1,4 +1,6 @@
 // The record of a group and the plans of its jobs as the library for C has them, word by word. Every public function answers for all arguments.
+#![tactic(auto)]
+
 ghost use Rattle.std.specs.Prelude.{◌≡◌, ◌≤◌, length};
 ghost use Rattle.capi_group_record.specs.GroupRecord.{plan_length, told_plan, no_plans, told_plans, no_group, nothing_told, told_group, stored_group};
 
@@ -10,14 +12,14 @@ use job_rules::Plan;
 pub const PLAN_WORDS: usize = 11;
 
 // What the words of plans tell: whether they are plans, and which.
-#[derive(Drop)]
+#[derive(Clone, Copy)]
 pub struct ToldPlans {
     pub legal: bool,
     pub plans: [Plan; GROUP_LIMIT],
 }
 
 // What the words of a group's record tell: whether they make one, and the group.
-#[derive(Drop)]
+#[derive(Clone, Copy)]
 pub struct ToldGroup {
     pub legal: bool,
     pub group: Group,

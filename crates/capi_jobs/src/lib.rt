@@ -1,6 +1,8 @@
 // The library for C (include/jonquilsaw.h), the calls of a job: numbers and slices only. In C a slice is a pointer, then a count of elements.
 // Every function answers for all arguments: 0 where the call was accepted, SCOPE's number where it was refused, and BOUNDARY for what only
 // this boundary can be asked, tested first.
+#![tactic(auto)]
+
 ghost use Rattle.std.specs.Prelude.{◌≡◌, length};
 ghost use Rattle.capi_jobs.specs.Jobs.{number_of_start, work_after_start, record_after_start, number_of_offer, record_after_offer, work_after_offer, count_after_offer, number_of_take, record_after_take, out_after_take, work_after_take};
 

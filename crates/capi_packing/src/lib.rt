@@ -1,6 +1,8 @@
 // The library for C (include/jonquilsaw.h), packing: numbers and slices only. In C a slice is a pointer, then a count of elements.
 // Every function answers for all arguments: 0 where the call was accepted, SCOPE's number where it was refused, and BOUNDARY for what only
 // this boundary can be asked, tested first.
+#![tactic(auto)]
+
 ghost use Rattle.std.specs.Prelude.{◌≡◌, length};
 ghost use Rattle.capi_packing.specs.Packing.{number_of_pack, out_after_pack, number_of_unpack, argb_after_unpack, number_of_argb_has_alpha, flag_after_argb_has_alpha};
 

@@ -1,6 +1,8 @@
 // The library for C (include/jonquilsaw.h), the writer of PAM pictures: numbers and slices only. In C a slice is a pointer, then a count of elements.
 // Every function answers for all arguments: 0 where the call was accepted, SCOPE's number where it was refused, and BOUNDARY for what only
 // this boundary can be asked, tested first.
+#![tactic(auto)]
+
 ghost use Rattle.std.specs.Prelude.{◌≡◌, length};
 ghost use Rattle.capi_pam_writing.specs.PamWriting.{number_of_pam_length, bytes_after_pam_header_length, bytes_after_pam_length, number_of_write_pam_header, out_after_write_pam_header, number_of_write_pam, out_after_write_pam};
 

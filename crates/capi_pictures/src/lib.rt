@@ -1,6 +1,8 @@
 // The library for C (include/jonquilsaw.h), whole pictures: numbers and slices only. In C a slice is a pointer, then a count of elements.
 // Every function answers for all arguments: 0 where the call was accepted, SCOPE's number where it was refused, and BOUNDARY for what only
 // this boundary can be asked, tested first.
+#![tactic(auto)]
+
 ghost use Rattle.std.specs.Prelude.{◌≡◌, length};
 ghost use Rattle.pixels.specs.Refusals.{buffer_if, flagged_number, flagged_flag};
 ghost use Rattle.capi_words.specs.Boundary.{stored_flag};

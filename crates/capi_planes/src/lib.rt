@@ -1,4 +1,6 @@
 // The library for C (include/jonquilsaw.h), the starts of planes: numbers and slices only, as in capi_jobs, whose calls serve them too.
+#![tactic(auto)]
+
 ghost use Rattle.std.specs.Prelude.{◌≡◌, length};
 ghost use Rattle.capi_planes.specs.Planes.{number_of_plane, work_after_plane, record_after_plane, number_of_planes, luma_work_after_planes, cb_work_after_planes, cr_work_after_planes, luma_after_planes, cb_after_planes, cr_after_planes};
 

@@ -1,4 +1,6 @@
 // The record of a job as the library for C has it, word by word. Every public function answers for all arguments.
+#![tactic(auto)]
+
 ghost use Rattle.std.specs.Prelude.{◌≡◌, ◌≤◌, length};
 ghost use Rattle.capi_words.specs.Words.{layout_word};
 ghost use Rattle.capi_record.specs.Record.{record_length, word_kind, kind_word, words_job, words_legal, told_by, stored_job};
@@ -16,7 +18,7 @@ pub const RECORD_WORDS: usize = 14;
 const KINDS: u32 = 2;
 
 // What the words of a record tell: the record, or nothing where they make none.
-#[derive(Drop)]
+#[derive(Clone, Copy)]
 pub enum Told {
     Job { job: Job },
     Nothing,

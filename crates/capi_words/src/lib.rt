@@ -1,5 +1,7 @@
 // The words that the library for C lends and hands over: layouts and flags as numbers, answers stored in lent words; and the boundary's own number and test.
 // Every function answers for all arguments.
+#![tactic(auto)]
+
 ghost use Rattle.std.specs.Prelude.{◌≡◌};
 ghost use Rattle.pixels.specs.Refusals.{checked_number};
 ghost use Rattle.capi_words.specs.Words.{word_layout, flag_word, stored};

@@ -1,4 +1,6 @@
 // An offer of source rows to all jobs of a group (SCOPE, "Groups"). specs/Calls.antt has its take, too, which crates/group_take makes.
+#![tactic(auto)]
+
 ghost use Rattle.std.specs.Prelude.{◌≡◌, true, ◌+◌, ◌≤◌, length};
 ghost use Rattle.pixels.specs.Refusals.{checked_number};
 ghost use Rattle.job.specs.Calls.{row_accepted, fed, more_accepted};
@@ -16,7 +18,7 @@ use pixels::Checked;
 use rows_in::put_source_row;
 
 // Whether rows were accepted, or why none; how many; and the next record.
-#[derive(Drop)]
+#[derive(Clone, Copy)]
 pub struct OfferedGroup {
     pub answer: Checked,
     pub rows: u32,

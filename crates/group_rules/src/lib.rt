@@ -1,5 +1,7 @@
 // Groups (SCOPE, "Groups"): several jobs over one source, which one lent work slice is cut among in the order given. The group's record and the rules that it is
 // held to. Fields are public: a group that meets the rules counts, whoever filled it.
+#![tactic(auto)]
+
 ghost use Rattle.std.specs.Prelude.{◌≡◌};
 ghost use Rattle.group_rules.specs.Group.{spare, same_layout, same_kind, alike, differing, looked, every, group_lawful};
 ghost use Rattle.group_rules.specs.Inner.{in_step};
@@ -13,7 +15,7 @@ use pixels_layout::PixelLayout;
 pub const GROUP_LIMIT: usize = 6;
 
 // The record: how many jobs, and theirs. What stands beyond the count says nothing.
-#[derive(Drop)]
+#[derive(Clone, Copy)]
 pub struct Group {
     pub count: u32,
     pub jobs: [Job; GROUP_LIMIT],

@@ -1,4 +1,6 @@
 // The start of a group (SCOPE, "Groups"): its tests, fresh jobs for the plans given, and their parts of the work values cleared.
+#![tactic(auto)]
+
 ghost use Rattle.std.specs.Prelude.{◌≡◌, ◌++◌, ◌≤◌, length, drop, replicate};
 ghost use Rattle.pixels.specs.Refusals.{checked_number};
 ghost use Rattle.group_rules.specs.Group.{total, some, formed, looked, group_of};
@@ -16,7 +18,7 @@ use pixels_layout::PixelLayout;
 use pixels_sizes::{bad_lanes, crop_beyond, wrong_sizes};
 
 // Whether the group started, or why not; and its record, that of an empty group where it did not.
-#[derive(Drop)]
+#[derive(Clone, Copy)]
 pub struct StartedGroup {
     pub answer: Checked,
     pub group: Group,

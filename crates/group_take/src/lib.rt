@@ -1,4 +1,6 @@
 // A take of one job's next row from a group, and the rows ready of it (SCOPE, "Groups").
+#![tactic(auto)]
+
 ghost use Rattle.std.specs.Prelude.{◌≡◌, length, set};
 ghost use Rattle.pixels.specs.Refusals.{checked_number};
 ghost use Rattle.job.specs.Answers.{takenJob};
@@ -15,7 +17,7 @@ use job_rules::row_bytes;
 use pixels::Checked;
 
 // Whether a row was written, or why not; and the next record.
-#[derive(Drop)]
+#[derive(Clone, Copy)]
 pub struct TakenGroup {
     pub answer: Checked,
     pub group: Group,

@@ -1,5 +1,7 @@
 // The tests of a group's offer and take (SCOPE, "Groups" and "Why a call is turned away"), each number over all its jobs before the next; and the work values that
 // its jobs need.
+#![tactic(auto)]
+
 ghost use Rattle.std.specs.Prelude.{◌≡◌, cond, true, ◌≤◌};
 ghost use Rattle.pixels.specs.Refusals.{checked_number};
 ghost use Rattle.group_rules.specs.Group.{total, group_lawful, looked};
@@ -12,7 +14,7 @@ use pixels::{Checked, Refusal};
 use rows_schedule::rows_by;
 
 // Where a part of the work values starts or ends, or why the call is turned away.
-#[derive(Drop)]
+#[derive(Clone, Copy)]
 pub enum Placed {
     At { place: usize },
     Refused { why: Refusal },

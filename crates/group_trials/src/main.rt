@@ -1,5 +1,7 @@
 // Runs groups: three previews of one small picture in one pass, then starts and takes that are turned away. The file `stdout` holds the number of each call as
 // SCOPE, "Groups", has it, and of each row taken the bytes, in hexadecimal, that the original makes of that job alone.
+#![tactic(auto)]
+
 ghost use Rattle.std.specs.Prelude.{◌≤◌};
 
 use group::offer_group;

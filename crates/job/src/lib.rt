@@ -1,5 +1,7 @@
 // The job (SCOPE, "The job"; the Rust: Rescaler and rescale_plane of geometry.rs): a record by value that every call takes and hands back.
 // The caller lends the rows, the work values and the output row. Fields are public: a record that meets the rules counts, whoever filled it.
+#![tactic(auto)]
+
 ghost use Rattle.std.specs.Prelude.{◌≡◌, ◌||◌, length};
 ghost use Rattle.pixels.specs.Refusals.{flagged_flag};
 ghost use Rattle.job.specs.Answers.{offeredNumber, offeredRows, offeredJob, takenNumber, takenJob};
@@ -13,7 +15,7 @@ use rows_out::take_row;
 use rows_schedule::rows_by;
 
 // The record: the plan, source rows accepted, preview rows taken, and whether a taken row had an alpha byte other than 255; a plane's has none.
-#[derive(Drop)]
+#[derive(Clone, Copy)]
 pub struct Job {
     pub plan: Plan,
     pub accepted: u32,
@@ -22,14 +24,14 @@ pub struct Job {
 }
 
 // How many of the rows lent were accepted, or why none; and the next record.
-#[derive(Drop)]
+#[derive(Clone, Copy)]
 pub enum Offered {
     Accepted { rows: u32, job: Job },
     Refused { why: Refusal, job: Job },
 }
 
 // A row was written, or why not; and the next record.
-#[derive(Drop)]
+#[derive(Clone, Copy)]
 pub enum Taken {
     Wrote { job: Job },
     Refused { why: Refusal, job: Job },

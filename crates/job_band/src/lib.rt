@@ -1,5 +1,7 @@
 // Bands summed from the bottom (SCOPE, "Bands"; request 9): a call that is lent the rows of the next band, top row first, and adds them from last to first.
 // Record and work rows are those that offering them in order leaves.
+#![tactic(auto)]
+
 ghost use Rattle.std.specs.Prelude.{◌≡◌, not, ◌||◌, eqb, length};
 ghost use Rattle.pixels.specs.Refusals.{checked_number};
 ghost use Rattle.job.specs.Record.{Rules};

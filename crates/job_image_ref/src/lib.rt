@@ -1,5 +1,7 @@
 // A borrowed picture (SCOPE, "Lanes": "A borrowed picture, as `ImageRef`, holds size, layout and pixels"; the Rust: ImageRef of image.rs).
 // Each function over it takes it apart and calls a function of plain parameters, which does the work.
+#![tactic(auto)]
+
 ghost use Rattle.std.specs.Prelude.{◌≡◌, length};
 ghost use Rattle.pixels.specs.Refusals.{checked_number, flagged_number, flagged_flag};
 ghost use Rattle.pixels_alpha.specs.Alpha.{picture_number, picture_flag};
@@ -12,7 +14,7 @@ use pixels_alpha::{check_picture, picture_has_alpha};
 use pixels_crop::crop;
 use pixels_layout::PixelLayout;
 
-#[derive(Drop)]
+#[derive(Clone, Copy)]
 pub struct ImageRef<'a> {
     pub dims: Dimensions,
     pub layout: PixelLayout,
@@ -21,7 +23,7 @@ pub struct ImageRef<'a> {
 
 // What `new` answers: the picture, and whether its size and its length pass. An enum cannot hold a reference, so the picture is there in each case; one that does
 // not pass is refused again wherever it is used.
-#[derive(Drop)]
+#[derive(Clone, Copy)]
 pub struct Borrowed<'a> {
     pub checked: Checked,
     pub image: ImageRef<'a>,

@@ -1,4 +1,6 @@
 // A picture of three planes (SCOPE, "Planes"): luma in full size, both chroma planes in half size, rounded up; a job each.
+#![tactic(auto)]
+
 ghost use Rattle.std.specs.Prelude.{◌≡◌, length};
 ghost use Rattle.pixels.specs.Refusals.{checked_number};
 ghost use Rattle.job_start.specs.Start.{started_number, started_job, start_work};
@@ -13,7 +15,7 @@ use pixels::{Checked, Dimensions, Rect, Refusal, bad_size};
 use pixels_layout::PixelLayout;
 
 // Three fresh jobs, or why there is none.
-#[derive(Drop)]
+#[derive(Clone, Copy)]
 pub enum StartedPlanes {
     Fresh { luma: Job, cb: Job, cr: Job },
     Refused { why: Refusal },

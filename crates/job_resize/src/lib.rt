@@ -1,4 +1,6 @@
 // Whole pictures scaled: resize, a job with the full crop (SCOPE, "The job"; the Rust: Image::resize and rescale_plane).
+#![tactic(auto)]
+
 ghost use Rattle.std.specs.Prelude.{◌≡◌, ◌+◌, ◌*◌, ◌≤◌, length, take, drop};
 ghost use Rattle.pixels.specs.Refusals.{checked_number, flagged_number, flagged_flag};
 ghost use Rattle.pixels.specs.Sizes.{row_bytes};

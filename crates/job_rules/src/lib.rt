@@ -1,5 +1,7 @@
 // What the calls of a job are held to (SCOPE, "The job" and "Why a call is turned away"): the plan, the record rules and the tests of each call. The record comes
 // as its parts, since it stands above, with its calls.
+#![tactic(auto)]
+
 ghost use Rattle.std.specs.Prelude.{◌≡◌, ltb};
 ghost use Rattle.pixels.specs.Refusals.{checked_number};
 ghost use Rattle.pixels.specs.Sizes.{row_bytes, work_values};
@@ -12,14 +14,14 @@ use rows_form::RowForm;
 use rows_schedule::{counts_fit, rows_by};
 
 // What a job scales: a picture's pixels, matted and restored, or a plane's lanes as they are.
-#[derive(Drop)]
+#[derive(Clone, Copy)]
 pub enum Kind {
     Picture,
     Plane,
 }
 
 // What does not change in a job. A picture has the four lanes of its pixels; a plane has 1 to 4 and the layout Rgba8.
-#[derive(Drop)]
+#[derive(Clone, Copy)]
 pub struct Plan {
     pub source: Dimensions,
     pub layout: PixelLayout,

@@ -1,4 +1,6 @@
 // The start of a job (SCOPE, "The job" and "Planes"): a fresh record for a picture or for a plane, and the work rows cleared.
+#![tactic(auto)]
+
 ghost use Rattle.std.specs.Prelude.{◌≡◌, ◌++◌, ◌≤◌, length, drop, replicate};
 ghost use Rattle.job_rules.specs.Rules.{plan_of, plane_of, start_number};
 ghost use Rattle.job.specs.Record.{fresh};
@@ -10,7 +12,7 @@ use pixels::{Checked, Dimensions, PIXEL_LANES, Rect, Refusal};
 use pixels_layout::PixelLayout;
 
 // A fresh job, or why there is none.
-#[derive(Drop)]
+#[derive(Clone, Copy)]
 pub enum Started {
     Fresh { job: Job },
     Refused { why: Refusal },

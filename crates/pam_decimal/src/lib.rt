@@ -1,4 +1,6 @@
 // Numbers below 100,000 in decimal, as the writer of PAM pictures puts them (SCOPE, "PAM").
+#![tactic(auto)]
+
 ghost use Rattle.std.specs.Prelude.{◌≡◌, ◌<◌, length};
 ghost use Rattle.pam_put.specs.Put.{put_at};
 ghost use Rattle.pam_decimal.specs.Decimal.{digit_at, decimal_of};

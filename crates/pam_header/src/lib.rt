@@ -1,4 +1,6 @@
 // The header of a PAM picture (SCOPE, "PAM"; netpbm's page of the format).
+#![tactic(auto)]
+
 ghost use Rattle.std.specs.Prelude.{◌≡◌, false};
 ghost use Rattle.pam_header.specs.Header.{answer_number, answer_size, answer_start, answer_unfinished, header_number, header_size, header_start, header_unfinished};
 ghost use Rattle.pam_header.specs.Inner.{verdict_number, verdict_size, verdict_start};
@@ -9,7 +11,7 @@ use pam_seen::{Seen, after_line};
 use pam_text::{Class, run_of, same};
 use pixels::{Dimensions, Refusal, bad_side};
 
-#[derive(Drop)]
+#[derive(Clone, Copy)]
 pub enum PamHeader {
     // the size, and the place of the first byte after the header
     Picture { size: Dimensions, start: usize },

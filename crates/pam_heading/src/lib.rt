@@ -1,4 +1,6 @@
 // The header of a PAM picture as the writer writes it (SCOPE, "PAM").
+#![tactic(auto)]
+
 ghost use Rattle.std.specs.Prelude.{◌≡◌, length};
 ghost use Rattle.pixels.specs.Refusals.{checked_number};
 ghost use Rattle.pixels.specs.Sizes.{size_number};
@@ -9,7 +11,7 @@ use pam_put::put;
 use pixels::{Checked, Dimensions, Refusal, bad_size};
 
 // A number of bytes, or why there is none.
-#[derive(Drop)]
+#[derive(Clone, Copy)]
 pub enum PamLength {
     Bytes(usize),
     Refused(Refusal),

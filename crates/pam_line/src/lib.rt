@@ -1,4 +1,6 @@
 // What a line of a PAM header says, after the first (SCOPE, "PAM").
+#![tactic(auto)]
+
 ghost use Rattle.std.specs.Prelude.{◌≡◌};
 ghost use Rattle.pam_line.specs.Line.{keyword_of, says};
 ghost use Rattle.pam_line.specs.Inner.{held, number_said, said_of};
@@ -8,7 +10,7 @@ use pam_words::{past, word};
 use preview_decimal::{NONE, number};
 
 // What a number may be given for.
-#[derive(Drop)]
+#[derive(Clone, Copy)]
 pub enum Key {
     Width,
     Height,
@@ -17,7 +19,7 @@ pub enum Key {
 }
 
 // The first word of a line that says something.
-#[derive(Drop)]
+#[derive(Clone, Copy)]
 pub enum Keyword {
     Number(Key),
     Type,
@@ -26,7 +28,7 @@ pub enum Keyword {
 }
 
 // What a line says.
-#[derive(Drop)]
+#[derive(Clone, Copy)]
 pub enum Said {
     Nothing,
     Number { key: Key, value: u32 },

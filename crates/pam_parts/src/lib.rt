@@ -1,4 +1,6 @@
 // A slice in two parts, for every count (SCOPE, "PAM").
+#![tactic(auto)]
+
 ghost use Rattle.std.specs.Prelude.{◌≡◌, take, drop};
 
 // What follows the first k bytes, empty where there are none. Rules out: the first k bytes themselves; everything where there are fewer.

@@ -1,4 +1,6 @@
 // A text put into a buffer, for every place (SCOPE, "PAM").
+#![tactic(auto)]
+
 ghost use Rattle.std.specs.Prelude.{◌≡◌};
 ghost use Rattle.pam_put.specs.Put.{put_at};
 

@@ -1,4 +1,6 @@
 // The reader of PAM pictures (SCOPE, "PAM").
+#![tactic(auto)]
+
 ghost use Rattle.std.specs.Prelude.{◌≡◌, not, eqb, ◌+◌};
 ghost use Rattle.pixels.specs.Refusals.{sized_number, sized_size};
 ghost use Rattle.pixels.specs.Sizes.{pixel_lanes, picture_bytes};

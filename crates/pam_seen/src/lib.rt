@@ -1,10 +1,12 @@
 // What the lines of a PAM header said so far, as the program holds it (SCOPE, "PAM").
+#![tactic(auto)]
+
 ghost use Rattle.std.specs.Prelude.{◌≡◌};
 ghost use Rattle.pam_seen.specs.Inner.{at, put, after_line};
 
 use pam_line::{Key, Said};
 
-#[derive(Drop)]
+#[derive(Clone, Copy)]
 pub struct Seen {
     // 0 where not given yet, else one more than the number
     pub width: u64,

@@ -1,9 +1,11 @@
 // Bytes of a PAM header: the runs that they come in, and texts compared (SCOPE, "PAM"; netpbm's page of the format).
+#![tactic(auto)]
+
 ghost use Rattle.std.specs.Prelude.{◌≡◌};
 ghost use Rattle.pam_text.specs.Text.{is_blank, is_of, run_length, same_text};
 
 // The bytes of a line, of a gap between words, of a word, of a number.
-#[derive(Drop)]
+#[derive(Clone, Copy)]
 pub enum Class {
     Inside,
     Blank,

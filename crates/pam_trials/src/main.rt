@@ -2,6 +2,8 @@
 // answer to the header alone, which is its number, or the size and the place of the first pixel; the answer to the whole, its number, or the size and the pixels.
 // Then the writer, and what it wrote read back.
 // The file `stdout` holds what tests/pam_model.py says of the same inputs.
+#![tactic(auto)]
+
 use pam_header::{PamHeader, pam_header};
 use pam_parts::{head_of, tail_of};
 use pam_reading::{pam_pixels, pam_size};

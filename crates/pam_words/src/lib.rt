@@ -1,4 +1,6 @@
 // The words of a line (SCOPE, "PAM").
+#![tactic(auto)]
+
 ghost use Rattle.std.specs.Prelude.{◌≡◌};
 ghost use Rattle.pam_words.specs.Words.{word_of, past_word};
 

@@ -1,4 +1,6 @@
 // The writer of PAM pictures (SCOPE, "PAM").
+#![tactic(auto)]
+
 ghost use Rattle.std.specs.Prelude.{◌≡◌, length};
 ghost use Rattle.pixels.specs.Refusals.{checked_number};
 ghost use Rattle.pixels.specs.Sizes.{size_number};

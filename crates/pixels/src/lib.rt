@@ -1,5 +1,7 @@
 // Pixels: sizes and why a call is turned away (SCOPE, "Beside the job", "Why a call is turned away"; the Rust: Dimensions and Rect of image.rs and
 // geometry.rs). Every function answers for all arguments. Fields are public: a value counts, whoever filled it, and is tested where it is used.
+#![tactic(auto)]
+
 pub use sizes::{bad_side, bad_size};
 
 mod sizes;
@@ -14,14 +16,14 @@ pub const PIXEL_LANES: usize = 4;
 // The most lanes that a plane has.
 pub const MAX_LANES: u32 = 4;
 
-#[derive(Drop)]
+#[derive(Clone, Copy)]
 pub struct Dimensions {
     pub width: u32,
     pub height: u32,
 }
 
 // A crop: its corner and its size, in pixels of the source.
-#[derive(Drop)]
+#[derive(Clone, Copy)]
 pub struct Rect {
     pub x: u32,
     pub y: u32,
@@ -30,7 +32,7 @@ pub struct Rect {
 }
 
 // Why a call is turned away, in the order of SCOPE's table; specs/Refusals.antt has the numbers.
-#[derive(Drop)]
+#[derive(Clone, Copy)]
 pub enum Refusal {
     // a source or target side is 0 or above MAX_DIMENSION, or the crop is empty
     InvalidDimensions,
@@ -69,21 +71,21 @@ pub enum Refusal {
 }
 
 // Whether what was asked may be done, or why not.
-#[derive(Drop)]
+#[derive(Clone, Copy)]
 pub enum Checked {
     Fit,
     Refused(Refusal),
 }
 
 // A size, or why there is none.
-#[derive(Drop)]
+#[derive(Clone, Copy)]
 pub enum Sized {
     Size(Dimensions),
     Refused(Refusal),
 }
 
 // The alpha flag of a picture, or why there is none.
-#[derive(Drop)]
+#[derive(Clone, Copy)]
 pub enum Flagged {
     Flag(bool),
     Refused(Refusal),

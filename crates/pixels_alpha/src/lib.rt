@@ -1,4 +1,6 @@
 // The alpha of whole pictures (SCOPE, "Lanes" and "Beside the job"; the Rust: Image::new's flag and Image::apply_alpha_plane).
+#![tactic(auto)]
+
 ghost use Rattle.std.specs.Prelude.{◌≡◌, ◌*◌, ◌/◌, length};
 ghost use Rattle.pixels.specs.Refusals.{checked_number, flagged_number, flagged_flag};
 ghost use Rattle.pixels.specs.Sizes.{pixel_lanes};

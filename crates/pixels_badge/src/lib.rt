@@ -1,4 +1,6 @@
 // A club badge over an opaque background of the same size, in place (SCOPE, "A badge over a background"). One pass that tests, one that writes.
+#![tactic(auto)]
+
 ghost use Rattle.std.specs.Prelude.{◌≡◌, ◌+◌, ◌*◌, ◌/◌, ◌^◌, ◌≤◌, min, length};
 ghost use Rattle.pixels.specs.Refusals.{checked_number};
 ghost use Rattle.pixels.specs.Sizes.{pixel_lanes};
@@ -38,7 +40,7 @@ fn put_word(bytes: &mut [u8], at: usize, w: u32)
     bytes[at + 3] = (w / 16777216) as u8;
 }
 
-#[derive(Drop)]
+#[derive(Clone, Copy)]
 struct Lanes {
     b: u8,
     g: u8,

@@ -1,4 +1,6 @@
 // The crop (SCOPE, "Lanes" and "Beside the job"; the Rust: crop of geometry.rs): the window of a row, and whole pictures.
+#![tactic(auto)]
+
 ghost use Rattle.std.specs.Prelude.{◌≡◌, ◌++◌, ◌+◌, ◌*◌, ◌≤◌, length, take, drop};
 ghost use Rattle.pixels.specs.Refusals.{checked_number, flagged_number, flagged_flag};
 ghost use Rattle.pixels.specs.Sizes.{pixel_lanes, picture_bytes, Fits};

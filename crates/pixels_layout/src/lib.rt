@@ -1,11 +1,13 @@
 // Layouts (SCOPE, "Lanes"; the Rust: PixelLayout).
+#![tactic(auto)]
+
 ghost use Rattle.std.specs.Prelude.{◌≡◌, ◌+◌, ◌*◌, ◌^◌, ◌<◌};
 ghost use Rattle.arithmetic.specs.Matte.{lane_of};
 ghost use Rattle.pixels.specs.Sizes.{pixel_lanes};
 ghost use Rattle.pixels_layout.specs.Layout.{row_of, place_of, places_of, alpha_lane, packed, unpacked};
 
 // The order of a pixel's bytes.
-#[derive(Drop)]
+#[derive(Clone, Copy)]
 pub enum PixelLayout {
     Rgba8,
     Argb8,
@@ -13,7 +15,7 @@ pub enum PixelLayout {
 }
 
 // Where a layout has the scaler's lanes: byte offsets within a pixel.
-#[derive(Drop)]
+#[derive(Clone, Copy)]
 pub struct Places {
     pub b: usize,
     pub g: usize,

@@ -1,4 +1,6 @@
 // Packing and unpacking slices of pixels (SCOPE, "Lanes"; the Rust: pack_pixels, unpack_pixels, argb_has_alpha).
+#![tactic(auto)]
+
 ghost use Rattle.std.specs.Prelude.{◌≡◌, ◌++◌, ◌+◌, ◌*◌, ◌/◌, ◌≤◌, length, take, drop};
 ghost use Rattle.pixels.specs.Refusals.{checked_number};
 ghost use Rattle.pixels.specs.Sizes.{pixel_lanes};

@@ -1,4 +1,6 @@
 // The tests of sizes and lengths that calls share (SCOPE, numbers 1 to 4 and 10 of "Why a call is turned away").
+#![tactic(auto)]
+
 ghost use Rattle.std.specs.Prelude.{◌≡◌, not, eqb};
 ghost use Rattle.pixels.specs.Refusals.{checked_number};
 ghost use Rattle.pixels.specs.Sizes.{pixel_lanes, picture_bytes, bad_sizes, crop_beyond, bad_lanes, sizes_number};

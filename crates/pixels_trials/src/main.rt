@@ -1,5 +1,7 @@
 // Runs the trials of SCOPE that this layer answers, and the edges beside them: each answer's number, then its values, one to a line in hexadecimal.
 // The file `stdout` holds what SCOPE says.
+#![tactic(auto)]
+
 use pixels::{Checked, Dimensions, Flagged, Rect, Sized};
 use pixels_layout::PixelLayout;
 use pixels_sizes::check_sizes;

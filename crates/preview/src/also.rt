@@ -21,7 +21,7 @@ const WORK: usize = GROUP_LIMIT * 131072;
 // ---- the words
 
 // How many words there are, the program's own name among them, and how many before the first option.
-#[derive(Drop)]
+#[derive(Clone, Copy)]
 pub struct Words {
     pub count: usize,
     pub before: usize,
@@ -62,7 +62,7 @@ fn up_to(text: &[u8], byte: u8) -> usize {
 }
 
 // A preview that is asked for: its sides as the words have them, and the argument that names its file; 0 is standard output. Not right where a word is wrong.
-#[derive(Drop)]
+#[derive(Clone, Copy)]
 pub struct Target {
     pub right: bool,
     pub sides: Dimensions,
@@ -152,7 +152,7 @@ fn say_too_many(count: usize) {
 
 // The previews that are asked for, the main one first, and the argument that names the badge's file; 0 where there is no badge. Not going where a word is wrong,
 // which was said.
-#[derive(Drop)]
+#[derive(Clone, Copy)]
 pub struct Asked {
     pub going: bool,
     pub badge: usize,
@@ -259,7 +259,7 @@ pub(crate) fn write_file(to: Out, bytes: &[u8]) -> bool {
 }
 
 // Where the previews go; not going where something stopped it.
-#[derive(Drop)]
+#[derive(Clone, Copy)]
 struct Outs {
     going: bool,
     outs: [Out; GROUP_LIMIT],
@@ -310,7 +310,7 @@ fn open_all(form: Form, group: Group, files: Outs) -> bool {
 // ---- the rows
 
 // A group on its way, or stopped by what was said.
-#[derive(Drop)]
+#[derive(Clone, Copy)]
 struct GroupRun {
     group: Group,
     going: bool,
@@ -460,7 +460,7 @@ fn run_group(group: Group, files: Outs, row: &mut [u8], out: &mut [u8], work: &m
 // ---- the pictures
 
 // A plan for each preview; not going where a size is refused, which was said.
-#[derive(Drop)]
+#[derive(Clone, Copy)]
 struct Plans {
     going: bool,
     plans: [Plan; GROUP_LIMIT],

@@ -104,7 +104,7 @@ fn read_badge(word: usize, preview: Dimensions, badge: &mut [u8]) -> bool {
 // ---- the preview
 
 // Some of the bytes.
-#[derive(Drop)]
+#[derive(Clone, Copy)]
 struct Bounds {
     at: usize,
     end: usize,

@@ -10,7 +10,7 @@ use pam_text::same;
 use pixels::{Checked, Dimensions, Refusal};
 
 // A beginning of a header; the size that a whole one says; or stopped by what was said.
-#[derive(Drop)]
+#[derive(Clone, Copy)]
 pub enum Head {
     More,
     Size(Dimensions),
@@ -18,7 +18,7 @@ pub enum Head {
 }
 
 // What a header is read from: standard input, or the descriptor of the badge's file.
-#[derive(Drop)]
+#[derive(Clone, Copy)]
 pub enum Source {
     Input,
     Badge(i32),

@@ -2,6 +2,8 @@
 // Reads a PAM picture from standard input and writes a PAM preview to standard output, its rows as they become ready, one row of each held at a time; with
 // --raw, raw RGBA rows of both. A target side of 0 is derived from the crop's size. Each --also writes another preview of the same crop to its file, in the same
 // pass. With --badge the preview is held whole, and goes out under the badge in the file. What goes wrong is said in one line on standard error.
+#![tactic(auto)]
+
 mod also;
 mod badge;
 mod header;
@@ -23,7 +25,7 @@ use pixels_layout::PixelLayout;
 use preview_decimal::{NONE, number};
 
 // What comes in and goes out.
-#[derive(Drop)]
+#[derive(Clone, Copy)]
 enum Form {
     Pam,
     Raw,
@@ -106,7 +108,7 @@ fn write_out(bytes: &[u8]) -> bool {
 }
 
 // Where a preview goes: to the file that argument `word` names, or where that is 0 to standard output.
-#[derive(Drop)]
+#[derive(Clone, Copy)]
 struct Out {
     word: usize,
     fd: i32,
@@ -129,7 +131,7 @@ fn write_to(to: Out, bytes: &[u8]) -> bool {
 // ---- the rows
 
 // A job on its way, or stopped by what was said.
-#[derive(Drop)]
+#[derive(Clone, Copy)]
 struct Run {
     job: Job,
     going: bool,

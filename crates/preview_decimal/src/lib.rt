@@ -1,4 +1,6 @@
 // A decimal number as an argument has it.
+#![tactic(auto)]
+
 ghost use Rattle.std.specs.Prelude.{◌≡◌};
 ghost use Rattle.preview_decimal.specs.Decimal.{is_digit, digit_of, decimal};
 

@@ -1,5 +1,7 @@
 // Replays the fixed list (oracle/README.md has its form): answers of the original Rust, held against the port's. Writes how many entries
 // there are and how many differ.
+#![tactic(auto)]
+
 use job::{Job, Offered, Taken};
 use job_start::{Started, start};
 use libc::STDOUT_FILENO;
@@ -15,7 +17,7 @@ use picture::{check, fill, fill_plane};
 use text::{entry, number};
 
 // An answer as an entry holds it.
-#[derive(Drop)]
+#[derive(Clone, Copy)]
 struct Answer {
     number: u32,
     flag: u32,
@@ -23,7 +25,7 @@ struct Answer {
 }
 
 // An entry: what is asked, and the original's answer.
-#[derive(Drop)]
+#[derive(Clone, Copy)]
 struct Entry {
     kind: u32,
     layout: PixelLayout,
@@ -100,7 +102,7 @@ fn entry_of(n: &[u32; 15]) -> Entry {
 // ---- kind 0: crop then resize, by rows
 
 // A job on its way: the checksum of the rows taken from it, the generator's state, and whether every row was accepted.
-#[derive(Drop)]
+#[derive(Clone, Copy)]
 struct Run {
     job: Job,
     sum: u32,
@@ -340,7 +342,7 @@ fn difference(e: Entry, source: &mut [u8], out: &mut [u8], work: &mut [u32]) -> 
 }
 
 // How many entries the list says it has, and how many of them differ.
-#[derive(Drop)]
+#[derive(Clone, Copy)]
 struct Count {
     entries: u32,
     differ: u32,

@@ -1,6 +1,6 @@
 // Reads the list's numbers.
 // A number, and where the text goes on.
-#[derive(Drop)]
+#[derive(Clone, Copy)]
 pub(crate) struct Read {
     pub(crate) value: u32,
     pub(crate) next: usize,

@@ -1,4 +1,6 @@
 // A crop row comes into the work rows (SCOPE, "A row comes in"; the Rust: Rescaler::import). Here the halves are added; `put` has the whole row.
+#![tactic(auto)]
+
 ghost use Rattle.std.specs.Prelude.{◌≡◌, ◌+◌, ◌≤◌, length};
 ghost use Rattle.pixels.specs.Refusals.{checked_number};
 ghost use Rattle.rows.specs.WorkRows.{added};

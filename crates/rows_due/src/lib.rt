@@ -1,5 +1,7 @@
 // When an output row is due (SCOPE, "A row goes out": the range of d; the Rust: Rescaler::has_pending_output, which has a running y_accum in
 // place of the row's number).
+#![tactic(auto)]
+
 ghost use Rattle.std.specs.Prelude.{◌≡◌, ◌-◌};
 ghost use Rattle.rows_due.specs.Due as spec;
 ghost use Rattle.rows_due.specs.Due.{within};

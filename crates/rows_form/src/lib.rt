@@ -1,12 +1,14 @@
 // What a row's bytes are (SCOPE, "Lanes"; "Planes"): the pixels of a picture, which are matted as they come in and restored as they go out, or the lanes of
 // a plane, which are scaled as they are.
+#![tactic(auto)]
+
 ghost use Rattle.std.specs.Prelude.{◌≡◌};
 ghost use Rattle.rows_form.specs.Form.{lanes_in};
 
 use pixels::PIXEL_LANES;
 use pixels_layout::PixelLayout;
 
-#[derive(Drop)]
+#[derive(Clone, Copy)]
 pub enum RowForm {
     // pixels in a layout, four lanes each
     Pixels(PixelLayout),

@@ -1,5 +1,7 @@
 // The sums of a block of columns of a row of pixels, where the width does not grow (SCOPE, "A row comes in"; the Rust: `sum` of Rescaler::import_row_shrink):
 // two pixels a turn, their bytes in eight 16-bit sums. So written the compiler makes one vector of the eight.
+#![tactic(auto)]
+
 ghost use Rattle.std.specs.Prelude.{◌≡◌, ◌+◌, ◌-◌, ◌*◌, ◌/◌, ◌%◌, ◌≤◌, ◌<◌, length};
 ghost use Rattle.pixels.specs.Sizes.{pixel_lanes};
 ghost use Rattle.rows.specs.Column.{start};
@@ -242,7 +244,7 @@ fn put8(sums: &mut [u16; 256], k: usize, s: Oct)
 }
 
 // The pixels of a column, from `from` up to `to`; `over` parts out of m of its last pixel are left over for the next.
-#[derive(Drop)]
+#[derive(Clone, Copy)]
 struct Column {
     from: usize,
     to: usize,

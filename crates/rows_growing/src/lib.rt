@@ -4,6 +4,8 @@
 // What keeps the four lanes one vector: a function for each layout with its places written out (bytes at places that vary are read one by one); Quads
 // assigned one by one (a struct of several is taken apart); the alpha matted too, by a 255 out of a table (one that the compiler sees makes that lane unlike
 // the others); remainders that change nothing and tell how small a factor is (one product of 16 bits then does for six steps in 32).
+#![tactic(auto)]
+
 ghost use Rattle.std.specs.Prelude.{◌≡◌, ◌+◌, ◌*◌, ◌/◌, ◌≤◌, ◌<◌, length};
 ghost use Rattle.arithmetic.specs.Word.{wrap_add, wrap_sub, wrap_mul};
 ghost use Rattle.pixels.specs.Sizes.{max_side, pixel_lanes};

@@ -1,4 +1,6 @@
 // A source row comes in (SCOPE, "The job": "Rows outside the crop count and touch no work value"; the Rust: a turn of Rescaler::import).
+#![tactic(auto)]
+
 ghost use Rattle.std.specs.Prelude.{◌≡◌, length};
 ghost use Rattle.pixels.specs.Refusals.{checked_number};
 ghost use Rattle.rows_form.specs.Form.{lanes_in};

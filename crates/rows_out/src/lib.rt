@@ -1,4 +1,6 @@
 // A row goes out, whole (SCOPE, "A row goes out"; the Rust: Rescaler::export_row and the end of resize): scaled, restored and packed.
+#![tactic(auto)]
+
 ghost use Rattle.std.specs.Prelude.{◌≡◌, length};
 ghost use Rattle.arithmetic.specs.Weight as weight;
 ghost use Rattle.pixels.specs.Refusals.{checked_number, flagged_number, flagged_flag};

@@ -1,5 +1,7 @@
 // A picture's row comes in (SCOPE, "A row comes in"; the Rust: Rescaler::import_row of geometry.rs): matted as its bytes are read, the four bytes of a pixel at
 // once and in their order; a column's end puts them into lanes. Work values wrap.
+#![tactic(auto)]
+
 ghost use Rattle.std.specs.Prelude.{◌≡◌, ◌+◌, ◌-◌, ◌*◌, ◌%◌, ◌≤◌, ◌<◌, length, get_or};
 ghost use Rattle.arithmetic.specs.Sum.{sum};
 ghost use Rattle.arithmetic.specs.Word.{wrap_add};
@@ -73,7 +75,7 @@ fn total_of(
 // ---- a column
 
 // x pixels are used, and `over` parts out of m of the last of them are left over.
-#[derive(Drop)]
+#[derive(Clone, Copy)]
 struct Stand {
     x: usize,
     over: usize,

@@ -1,5 +1,7 @@
 // A plane's row comes in (SCOPE, "Planes" and "A row comes in"; the Rust: Rescaler::import_row of geometry.rs with so many channels): its lanes as they are,
 // column after column, each lane of a column in its turn. Work values wrap.
+#![tactic(auto)]
+
 ghost use Rattle.std.specs.Prelude.{◌≡◌, ◌<◌, ◌≤◌, ◌++◌, length, drop, slice_index};
 ghost use Rattle.arithmetic.specs.Sum.{sum};
 ghost use Rattle.arithmetic.specs.Table.{tabulate};
@@ -60,7 +62,7 @@ fn lane_sum(row: &[u8], lanes: usize, k: usize, from: usize, count: usize) -> u3
 }
 
 // The pixels of a column, from `from` up to `to`; `over` parts out of m of its last pixel are left over for the next.
-#[derive(Drop)]
+#[derive(Clone, Copy)]
 struct Column {
     from: usize,
     to: usize,

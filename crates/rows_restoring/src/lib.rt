@@ -1,5 +1,7 @@
 // Pixels of an output row are restored and packed (SCOPE, "A row goes out" and "Lanes"; the Rust: mult_argb with `inverse` and pack_pixels;
 // libwebp's WebPMultARGBRow_C). In place, in passes: is the row opaque; if not, restore; then the byte order.
+#![tactic(auto)]
+
 ghost use Rattle.std.specs.Prelude.{◌≡◌, ◌+◌, ◌*◌, ◌^◌, ◌≤◌, ◌<◌, min, length, get_or, set};
 ghost use Rattle.arithmetic.specs.Matte.{lane_of, restore_factor, cut_colour, restore_factors};
 ghost use Rattle.arithmetic.specs.Table.{tabulate};

@@ -1,5 +1,7 @@
 // A row goes out (SCOPE; the Rust: Rescaler::export_row of geometry.rs, libwebp's WebPRescalerExportRow). Work values may be anything:
 // differences wrap, products are taken in 64 bits.
+#![tactic(auto)]
+
 ghost use Rattle.std.specs.Prelude.{◌≡◌, ◌+◌, ◌*◌, ◌^◌, ◌<◌, ◌≤◌, ◌++◌, length, drop, nat_lt, slice_index};
 ghost use Rattle.arithmetic.specs.Word.{wrap_mul};
 ghost use Rattle.arithmetic.specs.FixedPoint.{mult, floor, frac};

@@ -1,5 +1,7 @@
 // How many output rows a number of crop rows makes (SCOPE, "The job"; libwebp: utils/rescaler_utils.c).
 // Every function answers for all arguments. A crop height of 0, which no job has, gets what the definition says with the library's x / 0 = 0.
+#![tactic(auto)]
+
 ghost use Rattle.std.specs.Prelude.{◌≡◌, ◌-◌, ◌≤◌};
 ghost use Rattle.arithmetic.specs.Quotient.{ceil};
 ghost use Rattle.rows_schedule.specs.Schedule.{used, made, rows_by, counts_fit, needed};

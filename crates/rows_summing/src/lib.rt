@@ -1,5 +1,7 @@
 // The sums of a block of columns of a row of pixels, where the width does not grow (SCOPE, "A row comes in"; the Rust: `sum` of Rescaler::import_row_shrink). An
 // opaque block needs no products: its bytes are summed as they stand, and its alphas' sums tell whether it is one.
+#![tactic(auto)]
+
 ghost use Rattle.std.specs.Prelude.{◌≡◌, true, ◌≤◌, ◌<◌, length};
 ghost use Rattle.arithmetic.specs.Sum.{sum};
 ghost use Rattle.pixels.specs.Sizes.{pixel_lanes};

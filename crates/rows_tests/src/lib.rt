@@ -1,4 +1,6 @@
 // The tests of a row that comes in and of one that goes out, in the order of their numbers (SCOPE, "Why a call is turned away").
+#![tactic(auto)]
+
 ghost use Rattle.std.specs.Prelude.{◌≡◌};
 ghost use Rattle.pixels.specs.Refusals.{checked_number};
 ghost use Rattle.rows_tests.specs.Tests.{import_number, scale_number, values_number};
@@ -8,7 +10,7 @@ use pixels_sizes::bad_lanes;
 use rows_due::due;
 
 // What rows are scaled by: SCOPE's span, crop height h and target height g, and w, the values of a half.
-#[derive(Drop)]
+#[derive(Clone, Copy)]
 pub struct RowScale {
     pub span: u32,
     pub h: u32,

@@ -1,5 +1,7 @@
 // A plane's row whose width grows (SCOPE, "Planes" and "A row comes in"; the Rust: Rescaler::import_row of geometry.rs with so many channels): each lane of
 // a column in its turn. Work values wrap.
+#![tactic(auto)]
+
 ghost use Rattle.std.specs.Prelude.{◌≡◌, ◌<◌, ◌≤◌, length, slice_index};
 ghost use Rattle.arithmetic.specs.Word.{wrap_add, wrap_sub, wrap_mul};
 ghost use Rattle.pixels.specs.Refusals.{checked_number};
@@ -30,7 +32,7 @@ fn part(row: &[u8], lanes: usize, k: usize, x: usize, parts: usize) -> u32
 }
 
 // Where an output column stands between two pixels: acc of span parts are pixel x's, the rest the next one's.
-#[derive(Drop)]
+#[derive(Clone, Copy)]
 struct Stand {
     x: usize,
     acc: usize,

@@ -1,5 +1,7 @@
 // Runs the trials of SCOPE that are not proved, the edges of fixed point, matte and restore, one job offered in three ways, dividers, and planes. The file
 // `stdout` holds what SCOPE says: numbers in hexadecimal; pixels too, byte after byte; a size as width and height.
+#![tactic(auto)]
+
 ghost use Rattle.std.specs.Prelude.{◌≤◌};
 
 use job::{Job, Offered, Taken};
