@@ -1,0 +1,9 @@
+-- `mult_argb` meets its contract: the colours of the pixel's lanes, each scaled by the factor of the high byte, put together again. Assumes nothing.
+use Rattle.std.proofs.Common.{rules}
+use Rattle.arithmetic.proofs.Mattes.{argb_made}
+use Rattle.arithmetic.proofs.matting.mult_argb.Goals as goal
+
+pub returns : goal.returns
+returns c =
+    argb_made c.args.argb c.args.inverse c.ranges.argb.fits
+    c.scale-blue.ensures c.scale-green.ensures c.scale-red.ensures

@@ -1,0 +1,31 @@
+-- The pieces, one behind the other. Assumes nothing.
+use Rattle.pam_heading.proofs.Chain.{all-put}
+use Rattle.pam_decimal.proofs.Decimals.{some_digits}
+use Prim.Native.Nat.{◌+◌}
+use mathlib.Core.Path.{ap}
+use native.Mathlib.Omega.{arith}
+use borrow.Author.Rules.{rules}
+use Rattle.pam_heading.proofs.put_heading.Goals as goal
+
+pub overflow_add-a : goal.overflow_add-a
+overflow_add-a c = omega (arith, c.digits_of-a.ensures, (some_digits c.args.size.width).1)
+
+pub overflow_add-a-2 : goal.overflow_add-a-2
+overflow_add-a-2 c = omega (arith, c.digits_of-a.ensures, (some_digits c.args.size.width).1)
+
+pub overflow_add-b : goal.overflow_add-b
+overflow_add-b c =
+    omega (arith, c.digits_of-a.ensures, (some_digits c.args.size.width).1)
+
+pub overflow_add-b-2 : goal.overflow_add-b-2
+overflow_add-b-2 c =
+    omega (arith, c.digits_of-a.ensures, c.digits_of.ensures, (some_digits c.args.size.width).1, (some_digits c.args.size.height).1)
+
+pub returns : goal.returns
+returns c =
+    let g = c.args in
+    let a = c.digits_of-a in
+    let b = c.digits_of in
+    let put_all_lem = all-put g.size g.out.now c.put.new.0 c.put_decimal.new.0 c.put-2.new.0 c.put_decimal-2.new.0 c.put-3.new.0 (9 + a.result) (9 + a.result + 8 + b.result) in
+    let first = put_all_lem c.requires c.put.ensures c.put_decimal.ensures (ap (λ k. 9 + k) a.ensures) in
+    first c.put-2.ensures c.put_decimal-2.ensures (ap (λ k. 9 + a.result + 8 + k) b.ensures) c.put-3.ensures
