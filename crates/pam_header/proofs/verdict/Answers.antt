@@ -14,7 +14,7 @@ returns-then-t-eq0 c =
     let a = c.args in
     let e1 = eq-eqb _ _ c.if-t-eq0.true in
     let both = missing a.t a.start (simp (e1)) in
-    record { number = both.0; size = both.1; start = both.2; unfinished = both.3 }
+    record { number = both.0; size = both.1.0; start = both.1.1.0; unfinished = both.1.1.1 }
 
 pub returns-then-t-eq0-2 : goal.returns-then-t-eq0-2
 returns-then-t-eq0-2 c =
@@ -22,7 +22,7 @@ returns-then-t-eq0-2 c =
     let e1 = ne_eqb _ _ c.if-t-eq0.false in
     let e2 = eq-eqb _ _ c.if-t-eq0-2.true in
     let both = missing a.t a.start (simp (e1, e2)) in
-    record { number = both.0; size = both.1; start = both.2; unfinished = both.3 }
+    record { number = both.0; size = both.1.0; start = both.1.1.0; unfinished = both.1.1.1 }
 
 pub returns-then-t-eq0-3 : goal.returns-then-t-eq0-3
 returns-then-t-eq0-3 c =
@@ -31,7 +31,7 @@ returns-then-t-eq0-3 c =
     let e2 = ne_eqb _ _ c.if-t-eq0-2.false in
     let e3 = eq-eqb _ _ c.if-t-eq0-3.true in
     let both = missing a.t a.start (simp (e1, e2, e3)) in
-    record { number = both.0; size = both.1; start = both.2; unfinished = both.3 }
+    record { number = both.0; size = both.1.0; start = both.1.1.0; unfinished = both.1.1.1 }
 
 pub returns-then-t-eq0-4 : goal.returns-then-t-eq0-4
 returns-then-t-eq0-4 c =
@@ -41,7 +41,7 @@ returns-then-t-eq0-4 c =
     let e3 = ne_eqb _ _ c.if-t-eq0-3.false in
     let e4 = eq-eqb _ _ c.if-t-eq0-4.true in
     let both = missing a.t a.start (simp (e1, e2, e3, e4)) in
-    record { number = both.0; size = both.1; start = both.2; unfinished = both.3 }
+    record { number = both.0; size = both.1.0; start = both.1.1.0; unfinished = both.1.1.1 }
 
 pub returns-then-t-ne5 : goal.returns-then-t-ne5
 returns-then-t-ne5 c =
@@ -53,7 +53,7 @@ returns-then-t-ne5 c =
     let all : key_missing a.t ≡ false = simp (e1, e2, e3, e4) in
     let e5 = ne_eqb _ _ c.if-t-ne5.true in
     let both = other a.t a.start all (simp (e5)) in
-    record { number = both.0; size = both.1; start = both.2; unfinished = both.3 }
+    record { number = both.0; size = both.1.0; start = both.1.1.0; unfinished = both.1.1.1 }
 
 pub returns-then-t-ne256 : goal.returns-then-t-ne256
 returns-then-t-ne256 c =
@@ -66,7 +66,7 @@ returns-then-t-ne256 c =
     let e5 = eq-eqb _ _ c.if-t-ne5.false in
     let e6 = ne_eqb _ _ c.if-t-ne256.true in
     let both = other a.t a.start all (simp (e5, e6)) in
-    record { number = both.0; size = both.1; start = both.2; unfinished = both.3 }
+    record { number = both.0; size = both.1.0; start = both.1.1.0; unfinished = both.1.1.1 }
 
 pub returns-then-t-ne1 : goal.returns-then-t-ne1
 returns-then-t-ne1 c =
@@ -80,7 +80,7 @@ returns-then-t-ne1 c =
     let e6 = eq-eqb _ _ c.if-t-ne256.false in
     let e7 = ne_eqb _ _ c.if-t-ne1.true in
     let both = other a.t a.start all (simp (e5, e6, e7)) in
-    record { number = both.0; size = both.1; start = both.2; unfinished = both.3 }
+    record { number = both.0; size = both.1.0; start = both.1.1.0; unfinished = both.1.1.1 }
 
 pub returns-then-bad_side : goal.returns-then-bad_side
 returns-then-bad_side c =
@@ -95,7 +95,7 @@ returns-then-bad_side c =
     let e7 = eq-eqb _ _ c.if-t-ne1.false in
     let kind : other_kind a.t ≡ false = simp (e5, e6, e7) in
     let both = too_wide a.t a.start all kind (sym c.bad_side.ensures ∙ c.if-bad_side.true) in
-    record { number = both.0; size = both.1; start = both.2; unfinished = both.3 }
+    record { number = both.0; size = both.1.0; start = both.1.1.0; unfinished = both.1.1.1 }
 
 pub returns-then-bad_side-2 : goal.returns-then-bad_side-2
 returns-then-bad_side-2 c =
@@ -110,7 +110,7 @@ returns-then-bad_side-2 c =
     let e7 = eq-eqb _ _ c.if-t-ne1.false in
     let kind : other_kind a.t ≡ false = simp (e5, e6, e7) in
     let both = too_high a.t a.start all kind (sym c.bad_side-2.ensures ∙ c.if-bad_side-2.true) in
-    record { number = both.0; size = both.1; start = both.2; unfinished = both.3 }
+    record { number = both.0; size = both.1.0; start = both.1.1.0; unfinished = both.1.1.1 }
 
 pub overflow_cast-result : goal.overflow_cast-result
 overflow_cast-result c =
@@ -137,4 +137,4 @@ returns c =
     let wide = sym c.bad_side.ensures ∙ c.if-bad_side.false in
     let high = sym c.bad_side-2.ensures ∙ c.if-bad_side-2.false in
     let both = picture a.t a.start all kind wide high in
-    record { number = both.0; size = both.1; start = both.2; unfinished = both.3 }
+    record { number = both.0; size = both.1.0; start = both.1.1.0; unfinished = both.1.1.1 }

@@ -15,7 +15,7 @@ pub returns-in-Refused : goal.returns-in-Refused
 unfolding alpha_flag alpha_pixels
 returns-in-Refused c =
     let both = all_refused c.in-Refused.why _ _ _ _ (sym (rw c.in-Refused.is at c.check_alpha-checked.ensures)) in
-    record { number = both.0; flag = both.1; pixels = both.2 }
+    record { number = both.0; flag = both.1.0; pixels = both.1.1 }
 
 pub put_alpha-requires : goal.put_alpha-requires
 put_alpha-requires c =
@@ -35,4 +35,4 @@ returns c =
     let both = all_written _ _ _ _ z
         (flag_of a.layout _ t (a.size.width * a.size.height) c.has_alpha.ensures put (omega (arith, f.picture, with_length a.layout a.pixels.now a.plane.now)))
         put in
-    record { number = both.0; flag = both.1; pixels = both.2 }
+    record { number = both.0; flag = both.1.0; pixels = both.1.1 }

@@ -13,7 +13,7 @@ returns c =
     let scale = c.args.scale in
     record {
       value_is =
-          wrap_sub_is _ _ _ (omega (arith, less.type_inv)) (omega (arith, whole.type_inv)) (omega (arith, part.type_inv)) less.ensures
+          wrap_sub_is _ _ _ (omega (arith, less.type_inv)) (omega (arith, whole.type_inv)) (omega (arith, part.type_inv)) less.ensures.value
           ∙ ap₂ (λ (a b : ℕ). wrap_sub a b) whole.ensures part.ensures;
       carry_is = c.mult_fix.ensures ∙ ap (λ (a : ℕ). mult a scale) part.ensures;
     }
