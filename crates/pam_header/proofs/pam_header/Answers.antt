@@ -49,7 +49,7 @@ pub returns-then-t-eq1 : goal.returns-then-t-eq1
 returns-then-t-eq1 c =
     let g = c.loop-tail in
     let u = c.after_line-t.ensures ∙ ap (after_line g.t) c.line_says-said.ensures in
-    let both = turn_end g.invariant _ _ c.tail_of-tail.ensures c.run_of-n.ensures _ _ c.if-tail-n.false c.head_of-line.ensures u c.if-t-eq1.true c.verdict.result c.verdict.ensures in
+    let both = turn_end g.invariant _ _ c.tail_of-tail.ensures c.run_of-n.ensures _ _ c.if-tail-n.false c.head_of-line.ensures u c.if-t-eq1.true c.verdict.result (c.verdict.ensures.number, (c.verdict.ensures.size, (c.verdict.ensures.start, c.verdict.ensures.unfinished))) in
     record { number = both.0; size = both.1.0; start = both.1.1.0; unfinished = both.1.1.1 }
 
 pub loop-tail-smaller : goal.loop-tail-smaller

@@ -1,0 +1,18 @@
+-- Each quotient and remainder is a byte of the word. Assumes nothing.
+use native.Mathlib.Omega.{arith}
+use lib.ListN.{length-set}
+use Rattle.pixels_badge.proofs.Words.{word_put}
+use borrow.Author.Rules.{rules}
+use Rattle.pixels_badge.proofs.put_word.Goals as goal
+
+pub bounds-bytes-at-2 : goal.bounds-bytes-at-2
+bounds-bytes-at-2 c = simp length-set (omega arith)
+
+pub bounds-bytes-at-3 : goal.bounds-bytes-at-3
+bounds-bytes-at-3 c = simp length-set (omega arith)
+
+pub bounds-bytes-at-4 : goal.bounds-bytes-at-4
+bounds-bytes-at-4 c = simp length-set (omega arith)
+
+pub returns : goal.returns
+returns c = word_put c.args.bytes.now c.args.at c.args.w c.ranges.w.fits

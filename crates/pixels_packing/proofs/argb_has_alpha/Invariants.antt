@@ -1,0 +1,22 @@
+-- The invariant: no pixel passed has an alpha other than 255. Assumes nothing.
+use Rattle.pixels_alpha.proofs.Flags.{clear_at, clear_none, clear_next}
+use Rattle.arithmetic.proofs.Mattes.{lane_high}
+use Rattle.pixels_alpha.specs.Alpha.{argb_has_alpha}
+use native.Mathlib.Omega.{arith}
+use Prim.Native.Nat.{◌≤◌, ◌<◌, ◌-◌, ◌^◌}
+use mathlib.Core.Path.{◌≡◌, sym, ◌∙◌}
+use Rattle.pixels_alpha.specs.Alpha.{some_clear}
+use Rattle.pixels_layout.specs.Layout.{alpha_lane}
+use Rattle.arithmetic.specs.Matte.{lane_of}
+use lib.ListN.{length, get_or}
+use mathlib.Core.Bool.{false}
+use mathlib.Core.Path.{◌≡◌}
+use Prim.Native.Nat.{◌≤◌, ◌-◌}
+use borrow.Author.Rules.{rules}
+use Rattle.pixels_packing.proofs.argb_has_alpha.Given as goal
+
+abbrev pub invariant-loop-i : goal.invariant-loop-i
+invariant-loop-i l = (l.i ≤ length l.argb) × (some_clear (λ j. lane_of (get_or l.argb j 0) alpha_lane) l.i ≡ false)
+
+abbrev pub decreases-loop-i : goal.decreases-loop-i
+decreases-loop-i l = length l.argb - l.i

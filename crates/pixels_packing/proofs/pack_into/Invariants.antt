@@ -1,0 +1,22 @@
+-- The invariant: the bytes of the pixels passed, then the buffer as it was. Assumes nothing.
+use Rattle.arithmetic.proofs.Stretches.{none_filled, all_filled}
+use Rattle.pixels_layout.proofs.Packing.{packed_turn, packed_length}
+use Rattle.pixels_layout.specs.Layout.{packed_pixels}
+use native.Mathlib.Omega.{arith}
+use mathlib.Core.List.{◌++◌}
+use mathlib.Core.Path.{◌≡◌, refl, ap, ◌∙◌}
+use Rattle.pixels_layout.specs.Layout.{packed_byte}
+use Rattle.pixels.specs.Sizes.{pixel_lanes}
+use Rattle.arithmetic.specs.Table.{tabulate}
+use lib.ListN.{length, get_or, drop}
+use mathlib.Core.List.{◌++◌}
+use mathlib.Core.Path.{◌≡◌}
+use Prim.Native.Nat.{◌≤◌, ◌*◌, ◌-◌}
+use borrow.Author.Rules.{rules}
+use Rattle.pixels_packing.proofs.pack_into.Given as goal
+
+abbrev pub invariant-loop-i : goal.invariant-loop-i
+invariant-loop-i l = (l.i ≤ length l.argb) × (length l.out ≡ length l.initial.out) × (l.out ≡ tabulate (packed_byte l.layout (λ j. get_or l.argb j 0)) (pixel_lanes * l.i) ++ drop (pixel_lanes * l.i) l.initial.out)
+
+abbrev pub decreases-loop-i : goal.decreases-loop-i
+decreases-loop-i l = length l.argb - l.i

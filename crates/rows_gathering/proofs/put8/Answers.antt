@@ -1,0 +1,6 @@
+-- `put8`: twice four. Assumes nothing.
+use borrow.Author.Rules.{rules}
+use Rattle.rows_gathering.proofs.put8.Goals as goal
+
+pub returns : goal.returns
+returns c = rw (c.put4-2.ensures, c.put4.ensures)

@@ -1,0 +1,26 @@
+-- `toned_one`: the pixel's four bytes, and nothing beside them. Assumes nothing.
+use mathlib.Core.Path.{refl}
+use native.Mathlib.Omega.{arith}
+use Rattle.rows.specs.Inner.Import.{byte_at}
+use Rattle.rows_gathering.proofs.Pairing.{toned_own, own_none, toned_nothing}
+use borrow.Author.Rules.{rules}
+use Rattle.rows_gathering.proofs.toned_one.Goals as goal
+
+pub overflow_cast-q : goal.overflow_cast-q
+overflow_cast-q c = omega (arith, own_none c.requires.own_asks)
+
+pub returns : goal.returns
+unfolding byte_at
+returns c =
+    let a = c.args in
+    let e = own_none c.requires.own_asks in
+    record {
+      even = toned_own a.row.now a.place a.x a.o _ c.requires.own_asks
+          (record { l0 = c.toned_byte.ensures; l1 = c.toned_byte-2.ensures; l2 = c.toned_byte-3.ensures; l3 = c.toned_byte-4.ensures });
+      odd = record {
+        l0 = toned_nothing _ _ _ _ e refl c.toned_byte-5.ensures;
+        l1 = toned_nothing _ _ _ _ e refl c.toned_byte-6.ensures;
+        l2 = toned_nothing _ _ _ _ e refl c.toned_byte-7.ensures;
+        l3 = toned_nothing _ _ _ _ e refl c.toned_byte-8.ensures;
+      };
+    }

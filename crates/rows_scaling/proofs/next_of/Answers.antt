@@ -1,0 +1,9 @@
+-- `next_of` meets its contract, which is the test. Assumes nothing.
+use Rattle.std.proofs.Common.{rules, eq-eqb, ne_eqb}
+use Rattle.rows_scaling.proofs.next_of.Goals as goal
+
+pub returns-then-c-ne0 : goal.returns-then-c-ne0
+returns-then-c-ne0 c = simp (ne_eqb _ _ c.if-c-ne0.true)
+
+pub returns : goal.returns
+returns c = simp (eq-eqb _ _ c.if-c-ne0.false)
