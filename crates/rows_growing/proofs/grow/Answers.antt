@@ -80,12 +80,12 @@ grow_bgra-requires c =
 
 pub returns-in-Rgba8 : goal.returns-in-Rgba8
 returns-in-Rgba8 c =
-    grown_as c.in-Rgba8.is c.requires.row_asks c.grow_rgba.new.1.1.1.1.1.1.1.1.1.0 c.grow_rgba.ensures
+    grown_as c.in-Rgba8.is c.requires.row_asks c.grow_rgba.new.half c.grow_rgba.ensures
 
 pub returns-in-Argb8 : goal.returns-in-Argb8
 returns-in-Argb8 c =
-    grown_as c.in-Argb8.is c.requires.row_asks c.grow_argb.new.1.1.1.1.1.1.1.1.1.0 c.grow_argb.ensures
+    grown_as c.in-Argb8.is c.requires.row_asks c.grow_argb.new.half c.grow_argb.ensures
 
 pub returns-in-Bgra8 : goal.returns-in-Bgra8
 returns-in-Bgra8 c =
-    grown_as c.in-Bgra8.is c.requires.row_asks c.grow_bgra.new.1.1.1.1.1.1.1.1.1.0 c.grow_bgra.ensures
+    grown_as c.in-Bgra8.is c.requires.row_asks c.grow_bgra.new.half c.grow_bgra.ensures

@@ -18,10 +18,9 @@ grow-requires c =
 pub returns-in-Refused : goal.returns-in-Refused
 returns-in-Refused c =
     let a = c.args in
-    let told = c.enum_told-1.given in
     record {
       number = c.check_import-checked.ensures;
-      half = turned_away a.layout a.«crop_width» a.«target_width» a.row.now a.half.now told.0.0 (rw told.1 at c.check_import-checked.ensures);
+      half = turned_away a.layout a.«crop_width» a.«target_width» a.row.now a.half.now c.in-Refused.field-0 (rw c.in-Refused.is at c.check_import-checked.ensures);
     }
 
 pub returns-then-crop_width-target_width : goal.returns-then-crop_width-target_width
