@@ -7,20 +7,20 @@ pub returns-then-plain : goal.returns-then-plain
 returns-then-plain c = rw c.if-plain.true c.pairs_plain.ensures
 
 pub pairs_first-requires : goal.pairs_first-requires
-pairs_first-requires c = let a = (c.requires.column_asks, c.requires.own_asks) in
+pairs_first-requires c =
     record {
-      column_asks = a.0;
-      own_asks = rw c.if-place-eq0.true at a.1;
+      column_asks = c.requires.column_asks;
+      own_asks = rw c.if-place-eq0.true at c.requires.own_asks;
     }
 
 pub returns-then-place-eq0 : goal.returns-then-place-eq0
 returns-then-place-eq0 c = rw (c.if-plain.false, c.if-place-eq0.true) c.pairs_first.ensures
 
 pub pairs_last-requires : goal.pairs_last-requires
-pairs_last-requires c = let a = (c.requires.column_asks, c.requires.own_asks) in
+pairs_last-requires c =
     record {
-      column_asks = a.0;
-      own_asks = rw (← own_last a.1 c.if-place-eq0.false) at a.1;
+      column_asks = c.requires.column_asks;
+      own_asks = rw (← own_last c.requires.own_asks c.if-place-eq0.false) at c.requires.own_asks;
     }
 
 pub returns : goal.returns

@@ -4,12 +4,12 @@ use Rattle.rows_scaling.proofs.Factors.{blend_most, mixed_is}
 use Rattle.rows_scaling.proofs.blended.Goals as goal
 
 pub overflow_cast-result-2 : goal.overflow_cast-result-2
-overflow_cast-result-2 c = omega (arith, (c.type_inv.work c.args.new).fits)
+overflow_cast-result-2 c = omega (arith, (c.shared_slice_known-1.given c.args.new).fits)
 
 pub overflow_mul-result : goal.overflow_mul-result
 overflow_mul-result c =
     let a = c.args in
-    let newer = (c.type_inv.work a.new).fits in
+    let newer = (c.shared_slice_known-1.given a.new).fits in
     let older = (c.type_inv.work a.old).fits in
     omega (arith, blend_most a.a a.b c.requires.b_value newer older)
 
@@ -19,28 +19,28 @@ overflow_cast-result-4 c = omega (arith, (c.type_inv.work c.args.old).fits)
 pub overflow_mul-result-2 : goal.overflow_mul-result-2
 overflow_mul-result-2 c =
     let a = c.args in
-    let newer = (c.type_inv.work a.new).fits in
+    let newer = (c.shared_slice_known-1.given a.new).fits in
     let older = (c.type_inv.work a.old).fits in
     omega (arith, blend_most a.a a.b c.requires.b_value newer older)
 
 pub overflow_add-result : goal.overflow_add-result
 overflow_add-result c =
     let a = c.args in
-    let newer = (c.type_inv.work a.new).fits in
+    let newer = (c.shared_slice_known-1.given a.new).fits in
     let older = (c.type_inv.work a.old).fits in
     omega (arith, blend_most a.a a.b c.requires.b_value newer older)
 
 pub overflow_add-result-2 : goal.overflow_add-result-2
 overflow_add-result-2 c =
     let a = c.args in
-    let newer = (c.type_inv.work a.new).fits in
+    let newer = (c.shared_slice_known-1.given a.new).fits in
     let older = (c.type_inv.work a.old).fits in
     omega (arith, blend_most a.a a.b c.requires.b_value newer older)
 
 pub overflow_cast-result-5 : goal.overflow_cast-result-5
 overflow_cast-result-5 c =
     let a = c.args in
-    let newer = (c.type_inv.work a.new).fits in
+    let newer = (c.shared_slice_known-1.given a.new).fits in
     let older = (c.type_inv.work a.old).fits in
     omega (arith, blend_most a.a a.b c.requires.b_value newer older)
 

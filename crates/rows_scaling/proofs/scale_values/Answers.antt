@@ -25,8 +25,7 @@ pub returns-then-s : goal.returns-then-s
 returns-then-s c =
     let a = c.args in
     let z = rw c.in-Fit.is at c.check_values-checked.ensures in
-    let made = (c.shrink_row.ensures.out, c.shrink_row.ensures.work) in
-    let both = values_done a.s a.used a.row a.out.now a.work.now z made.0 made.1 in
+    let both = values_done a.s a.used a.row a.out.now a.work.now z c.shrink_row.ensures.out c.shrink_row.ensures.work in
     record { number = both.0; out = both.1.0; work = both.1.1 }
 
 pub grow_row-requires : goal.grow_row-requires

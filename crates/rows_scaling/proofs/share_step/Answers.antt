@@ -13,10 +13,10 @@ pub overflow_mul-d-2 : goal.overflow_mul-d-2
 overflow_mul-d-2 c = let a = c.args in omega (arith, row_most {y = a.row} {h = a.s.h} (omega arith) (omega arith))
 
 pub overflow_sub-d : goal.overflow_sub-d
-overflow_sub-d c = let p = (c.requires.row_asks, c.requires.g_le_h) in omega (arith, down_low p.0 p.1)
+overflow_sub-d c = omega (arith, down_low c.requires.row_asks c.requires.g_le_h)
 
 pub overflow_cast-d-5 : goal.overflow_cast-d-5
-overflow_cast-d-5 c = let p = (c.requires.row_asks, c.requires.g_le_h) in omega (arith, down_low p.0 p.1, down_high p.0 p.1)
+overflow_cast-d-5 c = omega (arith, down_low c.requires.row_asks c.requires.g_le_h, down_high c.requires.row_asks c.requires.g_le_h)
 
 pub returns : goal.returns
 returns c = let a = c.args in step_of a.s.h a.s.g a.used a.row c.frac.ensures c.wrapping_mul.ensures

@@ -23,7 +23,7 @@ pub loop-k-preserved : goal.loop-k-preserved
 loop-k-preserved c =
     let l = c.loop-k in
     shrink_turn l.invariant c.loop-k-test.true c.share_of-f.type_inv c.wrapping_sub_u32.type_inv
-    (c.type_inv.work l.k).fits c.share_of-f.ensures c.wrapping_sub_u32.ensures.value c.byte_by.ensures
+    (c.slice_known-in-loop-k-2-1.given l.k).fits c.share_of-f.ensures c.wrapping_sub_u32.ensures.value c.byte_by.ensures
 
 pub shape_of-work : goal.shape_of-work
 shape_of-work c = same c.loop-k.invariant.left

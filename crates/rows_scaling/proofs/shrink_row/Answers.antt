@@ -5,7 +5,7 @@ use Rattle.rows_scaling.specs.Scaling.{scale_in}
 use Rattle.rows_scaling.proofs.shrink_row.Goals as goal
 
 pub ratio_of-q-requires : goal.ratio_of-q-requires
-ratio_of-q-requires c = let p = (c.requires.row_asks, (c.requires.g_le_h, c.requires.room_asks)) in (p.0.span_some, p.0.h_some)
+ratio_of-q-requires c = (c.requires.row_asks.span_some, c.requires.row_asks.h_some)
 
 pub returns-then-q-eq4294967296 : goal.returns-then-q-eq4294967296
 returns-then-q-eq4294967296 c =
@@ -13,18 +13,16 @@ returns-then-q-eq4294967296 c =
     let by = scale_in a.s in
     let down = c.requires.g_le_h in
     let full = sym c.ratio_of-q.ensures ∙ c.if-q-eq4294967296.true in
-    let taken = (c.take_lanes.ensures.out, c.take_lanes.ensures.work) in
-    let out_is = take_out_lem by a.used a.row a.work.now down full taken.0 in
+    let out_is = take_out_lem by a.used a.row a.work.now down full c.take_lanes.ensures.out in
     record {
       out = out_is;
-      work = take_work_lem by a.used a.row a.work.now down full taken.1;
+      work = take_work_lem by a.used a.row a.work.now down full c.take_lanes.ensures.work;
     }
 
 pub overflow_cast-q : goal.overflow_cast-q
 overflow_cast-q c =
     let a = c.args in
-    let p = (c.requires.row_asks, (c.requires.g_le_h, c.requires.room_asks)) in
-    omega (arith, ratio_word a.s.span a.s.h a.s.g p.0.span_some p.0.h_some p.1.0 c.ratio_of-q.ensures, c.if-q-eq4294967296.false)
+    omega (arith, ratio_word a.s.span a.s.h a.s.g c.requires.row_asks.span_some c.requires.row_asks.h_some c.requires.g_le_h c.ratio_of-q.ensures, c.if-q-eq4294967296.false)
 
 pub shrink_lanes-requires : goal.shrink_lanes-requires
 shrink_lanes-requires c =
@@ -43,9 +41,8 @@ returns c =
     let q = c.ratio_of-q.ensures in
     let step = c.share_step-step.ensures in
     let below = c.if-q-eq4294967296.false in
-    let made = (c.shrink_lanes.ensures.out, c.shrink_lanes.ensures.work) in
-    let out_is = shrink_out by a.used a.row a.work.now down q step below made.0 in
+    let out_is = shrink_out by a.used a.row a.work.now down q step below c.shrink_lanes.ensures.out in
     record {
       out = out_is;
-      work = shrink_work by a.used a.row a.work.now down q step below made.1;
+      work = shrink_work by a.used a.row a.work.now down q step below c.shrink_lanes.ensures.work;
     }

@@ -1,0 +1,13 @@
+-- `put_between`: a lane a turn. Assumes nothing.
+-- the lane's part of a pixel may be read
+use Rattle.std.proofs.Common.{◌≡◌, ℕ, suc, ◌+◌, ◌-◌, ◌<◌, ◌≤◌, List, length, set, ap, ◌∙◌, ap₂, add-one, arith, rules}
+use Rattle.arithmetic.specs.Word.{wrap_add}
+use Rattle.rows_widening.specs.Inner.{set_all, between_value, PartAsks, BetweenAsks}
+use Rattle.rows_widening.proofs.Storing.{set_all_none, set_all_more, set_all_length}
+use Rattle.rows_widening.proofs.put_between.Given as goal
+
+abbrev pub invariant-loop-k : goal.invariant-loop-k
+invariant-loop-k l = (l.k ≤ l.lanes) × (l.half ≡ set_all l.initial.half l.at (between_value l.lanes l.row l.left l.right l.acc l.rest) l.k)
+
+abbrev pub decreases-loop-k : goal.decreases-loop-k
+decreases-loop-k l = l.lanes - l.k
