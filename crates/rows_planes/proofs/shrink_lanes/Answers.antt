@@ -16,17 +16,8 @@ use Rattle.rows_planes.specs.Inner.{column_value, column_carry, PutAsks}
 use Rattle.rows_widening.proofs.Storing.{stored_all}
 use Rattle.rows_widening.proofs.RowBytes.{byte_of_byte}
 use Rattle.rows.proofs.NextColumn.{LaneMade, lane_made, column_inside}
-use Rattle.rows_planes.proofs.shrink_lanes.Statement.{statement}
-use Rattle.rows_planes.proofs.shrink_lanes.Tie as tie
-
-record Inv (s : List ℕ) (lanes n m : ℕ) (half₀ half carry : List ℕ) (to over j : ℕ) : Type 0 where
-  so_far : j ≤ m
-  made : to * m ≡ j * n + over
-  over_small : over < m
-  to_small : to ≤ n
-  carries : (k : ℕ) → k < lanes → get_or carry k 0 ≡ column.carry (byte_of lanes s k) n m j
-  carry_room : lanes ≤ length carry
-  stored : Stored (row_value lanes (byte_of lanes s) n m) half₀ half (lanes * m) (lanes * j)
+use Rattle.rows_planes.proofs.shrink_lanes.Invariants.{Inv}
+use Rattle.rows_planes.proofs.shrink_lanes.Goals as goal
 
 first : {s half₀ carry : List ℕ} {lanes n m : ℕ} → RowAsks s half₀ lanes n m → carry ≡ replicate 4 0 → Inv s lanes n m half₀ half₀ carry 0 0 0
 unfolding column.carry
@@ -111,74 +102,45 @@ module _ {s half₀ half carry : List ℕ} {lanes n m to over j : ℕ} (a : RowA
   done : m ≤ j → half ≡ row_written lanes n m s half₀
   done l = all_stored v.stored (mul-le-mul_left lanes l)
 
-abbrev invariant-loop : tie.invariant-loop
-invariant-loop row lanes n m half₀ scale each rest carry₀ c₀ j₀ half carry c j = Inv row lanes n m half₀ half carry c.to c.over j
+pub overflow_cast-m : goal.overflow_cast-m
+overflow_cast-m c = omega (arith, c.requires.row_asks.m_small)
 
-abbrev decreases-loop : tie.decreases-loop
-decreases-loop row lanes n m half₀ scale each rest carry₀ c₀ j₀ half carry c j = m - j
+pub nonzero_div-each : goal.nonzero_div-each
+nonzero_div-each c = c.requires.row_asks.m_pos
 
-cast-frac : tie.Need-overflow-cast-frac invariant-loop decreases-loop
-cast-frac c = omega (arith, c.before.before.requires.0.m_small)
+pub nonzero_rem-rest : goal.nonzero_rem-rest
+nonzero_rem-rest c = c.requires.row_asks.m_pos
 
-frac-requires : tie.Need-frac-requires invariant-loop decreases-loop
-frac-requires c κs = search rules
+pub loop-j-init : goal.loop-j-init
+loop-j-init c = first c.requires.row_asks refl
 
-div-each : tie.Need-nonzero-div-each invariant-loop decreases-loop
-div-each c = c.before.before.before.requires.0.m_pos
+pub next_column-c-requires : goal.next_column-c-requires
+next_column-c-requires c = next_asks c.requires.row_asks c.requires.m_le_n c.loop-j.invariant _ _ refl refl
 
-rem-rest : tie.Need-nonzero-rem-rest invariant-loop decreases-loop
-rem-rest c = c.before.before.before.requires.0.m_pos
+pub overflow_mul-lanes : goal.overflow_mul-lanes
+overflow_mul-lanes c =
+    let asks = c.requires.row_asks in
+    omega (arith, mul-le-mul {n₁ = c.args.lanes} {m₁ = c.loop-j.j} {n₂ = 4} {m₂ = 16384} asks.lane_count.most (omega (arith, asks.m_small, c.loop-j-test.true)))
 
-loop-holds : tie.Need-loop-init invariant-loop decreases-loop
-loop-holds c = first c.before.before.before.requires.0 refl
+pub put_column-requires : goal.put_column-requires
+put_column-requires c = put-asks c.requires.row_asks c.requires.m_le_n c.loop-j.invariant c.next_column-c.ensures c.loop-j-test.true
 
-next-column-requires : tie.Need-next-column-requires invariant-loop decreases-loop
-next-column-requires c κs = next_asks c.before.before.before.before.before.requires.0 c.before.before.before.before.before.requires.1 c.before.loop.invariant _ _ refl refl
+pub overflow_add-j : goal.overflow_add-j
+overflow_add-j c = omega (arith, c.requires.row_asks.m_small, c.loop-j-test.true)
 
-mul-put-column : tie.Need-overflow-mul-put-column invariant-loop decreases-loop
-mul-put-column c =
-    let asks = c.before.before.before.before.before.before.before.before.requires.0 in
-    omega (arith, mul-le-mul {n₁ = c.before.before.before.before.before.before.before.before.args.lanes} {m₁ = c.before.before.before.before.loop.j} {n₂ = 4} {m₂ = 16384} asks.lane_count.most (omega (arith, asks.m_small, c.before.before.before.loop-test.true)))
+pub loop-j-smaller : goal.loop-j-smaller
+loop-j-smaller c = omega (arith, c.loop-j-test.true)
 
-put-column-requires : tie.Need-put-column-requires invariant-loop decreases-loop
-put-column-requires c κs = put-asks c.before.before.before.before.before.before.before.before.requires.0 c.before.before.before.before.before.before.before.before.requires.1 c.before.before.before.before.loop.invariant c.before.before.next-column.ensures c.before.before.before.loop-test.true
+pub loop-j-preserved : goal.loop-j-preserved
+loop-j-preserved c =
+    let asks = c.requires.row_asks in
+    let by_width = c.requires.m_le_n in
+    let inv = c.loop-j.invariant in
+    let more = c.loop-j-test.true in
+    turn asks by_width inv c.next_column-c.ensures more _ c.frac-scale.ensures _ _ c.put_column.ensures.half c.put_column.ensures.carry
 
-add-j : tie.Need-overflow-add-j invariant-loop decreases-loop
-add-j c = omega (arith, c.before.before.before.before.before.before.before.before.before.before.before.requires.0.m_small, c.before.before.before.before.before.before.loop-test.true)
+pub shape_of-half : goal.shape_of-half
+shape_of-half c = same c.loop-j.invariant.stored
 
-loop-less : tie.Need-loop-smaller invariant-loop decreases-loop
-loop-less c = omega (arith, c.before.before.before.before.before.before.loop-test.true)
-
-loop-again : tie.Need-loop-preserved invariant-loop decreases-loop
-loop-again c =
-    let asks = c.before.before.before.before.before.before.before.before.before.before.before.requires.0 in
-    let by_width = c.before.before.before.before.before.before.before.before.before.before.before.requires.1 in
-    let inv = c.before.before.before.before.before.before.before.loop.invariant in
-    let more = c.before.before.before.before.before.before.loop-test.true in
-    turn asks by_width inv c.before.before.before.before.before.next-column.ensures more _ c.before.before.before.before.before.before.before.before.frac.ensures _ _ c.before.before.put-column.ensures.1 c.before.before.put-column.ensures.0
-
-same_length : tie.Need-same-length invariant-loop decreases-loop
-same_length c = same c.before.loop.invariant.stored
-
-returns : tie.Need-returns invariant-loop decreases-loop
-returns c = done c.before.before.before.before.before.requires.0 c.before.before.before.before.before.requires.1 c.before.loop.invariant c.loop-test.false
-
-pub shrink-lanes-spec : {M : Type 1} → statement M
-shrink-lanes-spec =
-    tie.close
-    (tie.spec
-    invariant-loop
-    decreases-loop
-    cast-frac
-    frac-requires
-    div-each
-    rem-rest
-    loop-holds
-    next-column-requires
-    mul-put-column
-    put-column-requires
-    add-j
-    loop-less
-    loop-again
-    same_length
-    returns)
+pub returns : goal.returns
+returns c = done c.requires.row_asks c.requires.m_le_n c.loop-j.invariant c.loop-j-test.false

@@ -1,0 +1,42 @@
+-- `import_plane_row`: a row whose width grows is handed on; else a refusal with its number, or the row's bytes are written. Assumes nothing.
+use Rattle.std.proofs.Common.{sym, ◌∙◌, arith, rules}
+use Rattle.pixels.proofs.Numbers.{buffer_refused}
+use Rattle.rows_widening.proofs.RowBytes.{row_asks, by_bytes}
+use Rattle.rows_planes.specs.Planes.{plane_half}
+use Rattle.rows_planes.proofs.PlaneHalves.{plane_written_lem, plane_widened}
+use Rattle.rows_planes.proofs.import_plane_row.Goals as goal
+
+pub returns-then-crop_width-target_width : goal.returns-then-crop_width-target_width
+returns-then-crop_width-target_width c =
+    let a = c.args in
+    record {
+      number = c.widen_plane_row.ensures.number;
+      half = c.widen_plane_row.ensures.half ∙ plane_widened a.lanes a.«crop_width» a.«target_width» a.row.now a.half.now c.if-crop_width-target_width.true;
+    }
+
+pub shrink-requires : goal.shrink-requires
+shrink-requires c =
+    let a = c.args in
+    let goes = rw c.in-Fit.is at c.check_import-checked.ensures in
+    record {
+      row_asks = row_asks a.lanes a.«crop_width» a.«target_width» a.row.now a.half.now (λ i. omega (arith, c.type_inv.row i)) goes;
+      m_le_n = c.if-crop_width-target_width.false;
+    }
+
+pub returns-in-Refused : goal.returns-in-Refused
+unfolding plane_half
+returns-in-Refused c =
+    record {
+      number = c.check_import-checked.ensures;
+      half = (buffer_refused c.in-Refused.field-0 _ _ _ (sym (rw c.in-Refused.is at c.check_import-checked.ensures))).1;
+    }
+
+pub returns-in-Fit : goal.returns-in-Fit
+returns-in-Fit c =
+    let a = c.args in
+    let goes = rw c.in-Fit.is at c.check_import-checked.ensures in
+    let written = by_bytes a.lanes a.row.now (λ i. omega (arith, c.type_inv.row i)) a.«crop_width» a.«target_width» a.half.now _ c.shrink.ensures in
+    record {
+      number = c.check_import-checked.ensures;
+      half = written ∙ sym (plane_written_lem a.lanes a.«crop_width» a.«target_width» a.row.now a.half.now (sym goes));
+    }

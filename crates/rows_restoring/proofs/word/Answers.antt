@@ -1,0 +1,9 @@
+-- `word` meets its contract: it joins the four lanes. Assumes nothing.
+use Rattle.rows_restoring.proofs.RestoredPixels.{word_is}
+use borrow.Author.Rules.{rules}
+use Rattle.rows_restoring.proofs.word.Goals as goal
+
+pub returns : goal.returns
+returns c =
+    let a = c.args in
+    word_is a.out.now a.at c.joined.ensures
