@@ -11,9 +11,11 @@ use job_rules::{Kind, Plan, row_bytes};
 use job_start::{Started, start, start_plane};
 use pixels::{Dimensions, Rect};
 use pixels_layout::PixelLayout;
+use std::io;
 
-fn main() {
+fn main(rt: HostRuntime) -> io::Result<()> {
     all(
+        &rt,
         b"\x3c\xbb\x3e\xda\xb7\x5c\x7f\x38\x0d\xde\x10\x29\
         \x7f\xa4\x25\xd8\x79\x63\xe0\x14\xfa\x5b\xc0\x9b\
         \x99\x79\xfa\x72\x80\x38\x47\xcc\x2f\x68\xfa\x3d\
@@ -23,21 +25,21 @@ fn main() {
         \x5e\x02\xc9\xff\x90\xd3\x6a\x01\xee\x34\x8b\x80\
         \x0b\x8c\xfe\x62\x91\x7d\x3a\xc0\xf2\x11\x48\x3d\
         \xe5\xa0\xc7\x1f\x56\xb2\x09\xfe\x77\xd1\x2c\x4a",
-    );
+    )
 }
 
 // Each has rows of 8 bytes to hand out and takes 16 work values.
-fn all(pixels: &[u8]) {
-    io::write_all(1, b"a picture of 3 by 9, 2 by 7 of it to 2 by 3\n");
-    twice(cropped(), pixels);
-    io::write_all(1, b"a plane of two lanes, 3 by 7 to 4 by 2\n");
-    twice(two_lanes(), pixels);
-    io::write_all(1, b"a picture of 2 by 5 to 2 by 1\n");
-    twice(whole(PixelLayout::Rgba8, 5, 1), pixels);
-    io::write_all(1, b"a picture of 2 by 3 to 2 by 3\n");
-    twice(whole(PixelLayout::Rgba8, 3, 3), pixels);
-    io::write_all(1, b"a picture of 2 by 3 to 2 by 5\n");
-    twice(whole(PixelLayout::Argb8, 3, 5), pixels);
+fn all(rt: &impl Print, pixels: &[u8]) -> io::Result<()> {
+    println!(rt; "a picture of 3 by 9, 2 by 7 of it to 2 by 3")?;
+    twice(rt, cropped(), pixels)?;
+    println!(rt; "a plane of two lanes, 3 by 7 to 4 by 2")?;
+    twice(rt, two_lanes(), pixels)?;
+    println!(rt; "a picture of 2 by 5 to 2 by 1")?;
+    twice(rt, whole(PixelLayout::Rgba8, 5, 1), pixels)?;
+    println!(rt; "a picture of 2 by 3 to 2 by 3")?;
+    twice(rt, whole(PixelLayout::Rgba8, 3, 3), pixels)?;
+    println!(rt; "a picture of 2 by 3 to 2 by 5")?;
+    twice(rt, whole(PixelLayout::Argb8, 3, 5), pixels)
 }
 
 // ---- the jobs
@@ -89,16 +91,13 @@ fn two_lanes() -> Plan {
 // A picture two wide, and as wide scaled.
 fn whole(layout: PixelLayout, height: u32, target_height: u32) -> Plan {
     Plan {
-        source: Dimensions {
-            width: 2,
-            height: height,
-        },
-        layout: layout,
+        source: Dimensions { width: 2, height },
+        layout,
         crop: Rect {
             x: 0,
             y: 0,
             width: 2,
-            height: height,
+            height,
         },
         target: Dimensions {
             width: 2,
@@ -111,18 +110,19 @@ fn whole(layout: PixelLayout, height: u32, target_height: u32) -> Plan {
 
 // ---- both ways, over work values of which the last is no job's
 
-fn twice(p: Plan, pixels: &[u8]) {
+fn twice(rt: &impl Print, p: Plan, pixels: &[u8]) -> io::Result<()> {
     let mut work = [7u32; 17];
     let fresh = begun(p, &mut work);
-    by_rows(fresh, larger(p), pixels, &mut work);
+    by_rows(rt, fresh, larger(p), pixels, &mut work)?;
     let again = begun(p, &mut work);
     // a turn for each row to come, one for what is above the crop, and one more
     by_bands(
+        rt,
         again,
-        std::num::wrapping_add_u32(p.target.height, 2),
+        p.target.height.wrapping_add(2),
         pixels,
         &mut work,
-    );
+    )
 }
 
 // The larger of both heights.
@@ -155,52 +155,59 @@ fn started_job(started: Started, p: Plan) -> Job {
     }
 }
 
-fn by_rows(fresh: Job, times: u32, pixels: &[u8], work: &mut [u32]) {
+fn by_rows(
+    rt: &impl Print,
+    fresh: Job,
+    times: u32,
+    pixels: &[u8],
+    work: &mut [u32],
+) -> io::Result<()> {
     let mut job = fresh;
-    let mut i = 0u32;
-    while i < times {
-        job = row_turn(job, pixels, work);
-        i += 1;
+    for _ in 0..times {
+        job = row_turn(rt, job, pixels, work)?;
     }
+    Ok(())
 }
 
-fn row_turn(job: Job, pixels: &[u8], work: &mut [u32]) -> Job {
-    told(job, pixels);
-    let next = offer_row(job, pixels, work);
-    told(next, pixels);
-    take_row(next, work)
+fn row_turn(rt: &impl Print, job: Job, pixels: &[u8], work: &mut [u32]) -> io::Result<Job> {
+    told(rt, job, pixels)?;
+    let next = offer_row(rt, job, pixels, work)?;
+    told(rt, next, pixels)?;
+    take_row(rt, next, work)
 }
 
-fn by_bands(fresh: Job, times: u32, pixels: &[u8], work: &mut [u32]) {
+fn by_bands(
+    rt: &impl Print,
+    fresh: Job,
+    times: u32,
+    pixels: &[u8],
+    work: &mut [u32],
+) -> io::Result<()> {
     let mut job = fresh;
-    let mut i = 0u32;
-    while i < times {
-        job = band_turn(job, pixels, work);
-        i += 1;
+    for _ in 0..times {
+        job = band_turn(rt, job, pixels, work)?;
     }
+    Ok(())
 }
 
 // A call that is turned away leaves all as it was.
-fn band_turn(job: Job, pixels: &[u8], work: &mut [u32]) -> Job {
-    let fed = band_due(job, pixels, work);
-    let next = offer_row(fed, pixels, work);
-    take_row(next, work)
+fn band_turn(rt: &impl Print, job: Job, pixels: &[u8], work: &mut [u32]) -> io::Result<Job> {
+    let fed = band_due(rt, job, pixels, work)?;
+    let next = offer_row(rt, fed, pixels, work)?;
+    take_row(rt, next, work)
 }
 
 // ---- calls
 
 // What four bands would be answered, over work values of their own.
-fn told(job: Job, pixels: &[u8]) {
+fn told(rt: &impl Print, job: Job, pixels: &[u8]) -> io::Result<()> {
     let rows = band_rows(job);
-    io::print_decimal(1, job.accepted as u64);
-    io::write_all(1, b" accepted, ");
-    io::print_decimal(1, rows as u64);
-    io::write_all(1, b" in the next band:");
-    tried(job, less(rows), pixels);
-    tried(job, rows, pixels);
-    tried(job, std::num::wrapping_add_u32(rows, 1), pixels);
-    tried_short(job, rows, pixels);
-    io::write_all(1, b"\n");
+    print!(rt; "{} accepted, {} in the next band:", job.accepted, rows)?;
+    tried(rt, job, less(rows), pixels)?;
+    tried(rt, job, rows, pixels)?;
+    tried(rt, job, rows.wrapping_add(1), pixels)?;
+    tried_short(rt, job, rows, pixels)?;
+    println!(rt)
 }
 
 fn less(rows: u32) -> u32 {
@@ -210,64 +217,56 @@ fn less(rows: u32) -> u32 {
     rows - 1
 }
 
-fn tried(job: Job, rows: u32, pixels: &[u8]) {
+fn tried(rt: &impl Print, job: Job, rows: u32, pixels: &[u8]) -> io::Result<()> {
     let mut work = [7u32; 16];
-    number(band_of(job, rows, pixels, &mut work));
+    number(rt, band_of(job, rows, pixels, &mut work))
 }
 
-fn tried_short(job: Job, rows: u32, pixels: &[u8]) {
+fn tried_short(rt: &impl Print, job: Job, rows: u32, pixels: &[u8]) -> io::Result<()> {
     let mut work = [7u32; 15];
-    number(band_of(job, rows, pixels, &mut work));
+    number(rt, band_of(job, rows, pixels, &mut work))
 }
 
 // The next so many rows as a band.
 fn band_of(job: Job, rows: u32, pixels: &[u8], work: &mut [u32]) -> Offered {
     let row = row_bytes(job.plan, job.plan.source.width);
     let at = place(row, job.accepted, pixels.len());
-    let end = place(
-        row,
-        std::num::wrapping_add_u32(job.accepted, rows),
-        pixels.len(),
-    );
+    let end = place(row, job.accepted.wrapping_add(rows), pixels.len());
     if end < at {
         return offer_band(job, &pixels[at..at], work);
     }
     offer_band(job, &pixels[at..end], work)
 }
 
-fn band_due(job: Job, pixels: &[u8], work: &mut [u32]) -> Job {
+fn band_due(rt: &impl Print, job: Job, pixels: &[u8], work: &mut [u32]) -> io::Result<Job> {
     let answer = band_of(job, band_rows(job), pixels, work);
-    io::write_all(1, b"band");
-    accepted_line(answer);
-    words_line(work);
-    fed(answer)
+    print!(rt; "band")?;
+    accepted_line(rt, answer)?;
+    words_line(rt, work)?;
+    Ok(fed(answer))
 }
 
-fn offer_row(job: Job, pixels: &[u8], work: &mut [u32]) -> Job {
+fn offer_row(rt: &impl Print, job: Job, pixels: &[u8], work: &mut [u32]) -> io::Result<Job> {
     let row = row_bytes(job.plan, job.plan.source.width);
     let at = place(row, job.accepted, pixels.len());
-    let end = place(
-        row,
-        std::num::wrapping_add_u32(job.accepted, 1),
-        pixels.len(),
-    );
+    let end = place(row, job.accepted.wrapping_add(1), pixels.len());
     if end < at {
-        return job;
+        return Ok(job);
     }
     let answer = job.offer(&pixels[at..end], work);
-    io::write_all(1, b"offer");
-    accepted_line(answer);
-    fed(answer)
+    print!(rt; "offer")?;
+    accepted_line(rt, answer)?;
+    Ok(fed(answer))
 }
 
-fn take_row(job: Job, work: &mut [u32]) -> Job {
+fn take_row(rt: &impl Print, job: Job, work: &mut [u32]) -> io::Result<Job> {
     let mut row = [1u8; 8];
     let answer = job.take(&mut row, work);
-    io::write_all(1, b"take");
-    taken_number(answer);
-    io::write_all(1, b": ");
-    hex_line(&row);
-    took(answer)
+    print!(rt; "take")?;
+    taken_number(rt, answer)?;
+    print!(rt; ": ")?;
+    hex_line(rt, &row)?;
+    Ok(took(answer))
 }
 
 // Where row k starts, of `row` bytes each, or the end of the bytes where that is before it.
@@ -299,19 +298,17 @@ fn took(answer: Taken) -> Job {
 
 // ---- writing
 
-fn number(answer: Offered) {
+fn number(rt: &impl Print, answer: Offered) -> io::Result<()> {
     match answer {
-        Offered::Accepted { rows: _, job: _ } => spaced(0),
-        Offered::Refused { why, job: _ } => spaced(why.number()),
+        Offered::Accepted { rows: _, job: _ } => spaced(rt, 0),
+        Offered::Refused { why, job: _ } => spaced(rt, why.number()),
     }
 }
 
 // The number and how many rows were accepted.
-fn accepted_line(answer: Offered) {
-    number(answer);
-    io::write_all(1, b": ");
-    io::print_decimal(1, rows_of(answer) as u64);
-    io::write_all(1, b"\n");
+fn accepted_line(rt: &impl Print, answer: Offered) -> io::Result<()> {
+    number(rt, answer)?;
+    println!(rt; ": {}", rows_of(answer))
 }
 
 fn rows_of(answer: Offered) -> u32 {
@@ -321,40 +318,27 @@ fn rows_of(answer: Offered) -> u32 {
     }
 }
 
-fn taken_number(answer: Taken) {
+fn taken_number(rt: &impl Print, answer: Taken) -> io::Result<()> {
     match answer {
-        Taken::Wrote { job: _ } => spaced(0),
-        Taken::Refused { why, job: _ } => spaced(why.number()),
+        Taken::Wrote { job: _ } => spaced(rt, 0),
+        Taken::Refused { why, job: _ } => spaced(rt, why.number()),
     }
 }
 
-fn spaced(n: u32) {
-    io::write_all(1, b" ");
-    io::print_decimal(1, n as u64);
+fn spaced(rt: &impl Print, n: u32) -> io::Result<()> {
+    print!(rt; " {n}")
 }
 
-fn hex_line(bytes: &[u8]) {
-    let mut i = 0;
-    while i < bytes.len() {
-        io::print_hex(1, wide(bytes[i]), 2);
-        i += 1;
+fn hex_line(rt: &impl Print, bytes: &[u8]) -> io::Result<()> {
+    for byte in bytes {
+        print!(rt; "{byte:02x}")?;
     }
-    io::write_all(1, b"\n");
+    println!(rt)
 }
 
-fn wide(x: u8) -> u64 {
-    x as u64
-}
-
-fn words_line(words: &[u32]) {
-    let mut i = 0;
-    while i < words.len() {
-        io::print_hex(1, long(words[i]), 8);
-        i += 1;
+fn words_line(rt: &impl Print, words: &[u32]) -> io::Result<()> {
+    for word in words {
+        print!(rt; "{word:08x}")?;
     }
-    io::write_all(1, b"\n");
-}
-
-fn long(x: u32) -> u64 {
-    x as u64
+    println!(rt)
 }

@@ -12,32 +12,34 @@ use job::Job;
 use job_rules::{Kind, Plan, row_bytes};
 use pixels::{Checked, Dimensions, Rect};
 use pixels_layout::PixelLayout;
+use std::io;
 
-fn main() {
-    previews();
-    starts();
-    turned_away();
+fn main(rt: HostRuntime) -> io::Result<()> {
+    previews(&rt)?;
+    starts(&rt)?;
+    turned_away(&rt)
 }
 
 // ---- a picture of 3 by 6 to 2 by 2, four of its rows to 2 by 3, and 2 by 2 of it to 2 by 3
 
-fn previews() {
+fn previews(rt: &impl Print) -> io::Result<()> {
     one_pass(
+        rt,
         b"\x3c\xbb\x3e\xda\xb7\x5c\x7f\x38\x0d\xde\x10\x29\
         \x7f\xa4\x25\xd8\x79\x63\xe0\x14\xfa\x5b\xc0\x9b\
         \x99\x79\xfa\x72\x80\x38\x47\xcc\x2f\x68\xfa\x3d\
         \xe4\x48\x78\x4c\xe3\x88\x64\x99\x1a\x28\x14\x24\
         \xc8\x49\x19\x75\x27\x5b\x00\xab\x3e\x4e\x91\xb6\
         \x65\xa4\x25\x3b\x17\x90\xea\xf2\x17\x7c\x27\x73",
-    );
+    )
 }
 
-fn one_pass(pixels: &[u8]) {
+fn one_pass(rt: &impl Print, pixels: &[u8]) -> io::Result<()> {
     let mut work = [7u32; 49];
     let started = start_group(three(), 3, &mut work);
     let fresh = started.group;
-    let done = turns(fresh, 5, pixels, &mut work);
-    counts(done);
+    let done = turns(rt, fresh, 5, pixels, &mut work)?;
+    counts(rt, done)
 }
 
 fn three() -> [Plan; GROUP_LIMIT] {
@@ -56,10 +58,10 @@ fn plan(x: u32, y: u32, width: u32, height: u32, target_width: u32, target_heigh
         },
         layout: PixelLayout::Rgba8,
         crop: Rect {
-            x: x,
-            y: y,
-            width: width,
-            height: height,
+            x,
+            y,
+            width,
+            height,
         },
         target: Dimensions {
             width: target_width,
@@ -70,45 +72,48 @@ fn plan(x: u32, y: u32, width: u32, height: u32, target_width: u32, target_heigh
     }
 }
 
-fn turns(fresh: Group, times: u32, pixels: &[u8], work: &mut [u32]) -> Group {
+fn turns(
+    rt: &impl Print,
+    fresh: Group,
+    times: u32,
+    pixels: &[u8],
+    work: &mut [u32],
+) -> io::Result<Group> {
     let mut group = fresh;
-    let mut i = 0u32;
-    while i < times {
-        group = turn(group, pixels, work);
-        i += 1;
+    for _ in 0..times {
+        group = turn(rt, group, pixels, work)?;
     }
-    group
+    Ok(group)
 }
 
 // Offers all rows left and takes a row of each job; a call that is turned away leaves all as it was.
-fn turn(group: Group, pixels: &[u8], work: &mut [u32]) -> Group {
-    let fed = offer_rest(group, pixels, work);
-    let one = take_row(fed, 0, work);
-    let two = take_row(one, 1, work);
-    take_row(two, 2, work)
+fn turn(rt: &impl Print, group: Group, pixels: &[u8], work: &mut [u32]) -> io::Result<Group> {
+    let fed = offer_rest(rt, group, pixels, work)?;
+    let one = take_row(rt, fed, 0, work)?;
+    let two = take_row(rt, one, 1, work)?;
+    take_row(rt, two, 2, work)
 }
 
 // The source's rows that the group has not accepted.
-fn offer_rest(group: Group, pixels: &[u8], work: &mut [u32]) -> Group {
+fn offer_rest(rt: &impl Print, group: Group, pixels: &[u8], work: &mut [u32]) -> io::Result<Group> {
     let job = group.jobs[0];
     let row = row_bytes(job.plan, job.plan.source.width);
     let at = place(row, job.accepted, pixels.len());
     let offered = offer_group(group, &pixels[at..], work);
     let answer = offered.answer;
-    number(answer);
-    io::print_decimal(1, offered.rows as u64);
-    io::write_all(1, b" rows accepted\n");
-    offered.group
+    number(rt, answer)?;
+    println!(rt; "{} rows accepted", offered.rows)?;
+    Ok(offered.group)
 }
 
 // The next row of a job.
-fn take_row(group: Group, i: u32, work: &mut [u32]) -> Group {
+fn take_row(rt: &impl Print, group: Group, i: u32, work: &mut [u32]) -> io::Result<Group> {
     let mut row = [1u8; 8];
     let taken = take_group(group, i, &mut row, work);
     let answer = taken.answer;
-    number(answer);
-    hex_line(&row);
-    taken.group
+    number(rt, answer)?;
+    hex_line(rt, &row)?;
+    Ok(taken.group)
 }
 
 // Where row k starts, of `row` bytes each, or the end of the bytes where that is before it.
@@ -126,56 +131,53 @@ fn place(row: usize, k: u32, len: usize) -> usize
 
 // ---- starts
 
-fn starts() {
-    enough();
-    short();
-    many();
-    none();
-    unlike();
+fn starts(rt: &impl Print) -> io::Result<()> {
+    enough(rt)?;
+    short(rt)?;
+    many(rt)?;
+    none(rt)?;
+    unlike(rt)
 }
 
 // As many values as all jobs need; those of one job
-fn enough() {
+fn enough(rt: &impl Print) -> io::Result<()> {
     let mut work = [7u32; 48];
     let mut own = [7u32; 16];
-    start_line(three(), 3, &mut work);
-    start_line(three(), 1, &mut own);
+    start_line(rt, three(), 3, &mut work)?;
+    start_line(rt, three(), 1, &mut own)
 }
 
 // One value too few
-fn short() {
+fn short(rt: &impl Print) -> io::Result<()> {
     let mut work = [7u32; 47];
-    start_line(three(), 3, &mut work);
+    start_line(rt, three(), 3, &mut work)
 }
 
 // Six jobs; a seventh; a seventh, the sixth cropped beyond its source, which is ahead of 14
-fn many() {
+fn many(rt: &impl Print) -> io::Result<()> {
     let mut work = [7u32; 128];
-    start_line(three(), 6, &mut work);
-    start_line(three(), 7, &mut work);
-    start_line(with_last(plan(1, 0, 3, 6, 2, 2)), 7, &mut work);
+    start_line(rt, three(), 6, &mut work)?;
+    start_line(rt, three(), 7, &mut work)?;
+    start_line(rt, with_last(plan(1, 0, 3, 6, 2, 2)), 7, &mut work)
 }
 
-fn none() {
+fn none(rt: &impl Print) -> io::Result<()> {
     let mut work = [7u32; 1];
-    start_line(three(), 0, &mut work);
+    start_line(rt, three(), 0, &mut work)
 }
 
 // Another source, another layout, a plane; a target of no width, which is ahead of 13
-fn unlike() {
-    differ(other(7, PixelLayout::Rgba8, Kind::Picture));
-    differ(other(6, PixelLayout::Argb8, Kind::Picture));
-    differ(other(6, PixelLayout::Rgba8, Kind::Plane));
-    differ(plan(0, 0, 3, 6, 0, 2));
+fn unlike(rt: &impl Print) -> io::Result<()> {
+    differ(rt, other(7, PixelLayout::Rgba8, Kind::Picture))?;
+    differ(rt, other(6, PixelLayout::Argb8, Kind::Picture))?;
+    differ(rt, other(6, PixelLayout::Rgba8, Kind::Plane))?;
+    differ(rt, plan(0, 0, 3, 6, 0, 2))
 }
 
 fn other(height: u32, layout: PixelLayout, kind: Kind) -> Plan {
     Plan {
-        source: Dimensions {
-            width: 3,
-            height: height,
-        },
-        layout: layout,
+        source: Dimensions { width: 3, height },
+        layout,
         crop: Rect {
             x: 0,
             y: 0,
@@ -186,14 +188,14 @@ fn other(height: u32, layout: PixelLayout, kind: Kind) -> Plan {
             width: 2,
             height: 2,
         },
-        kind: kind,
+        kind,
         lanes: 4,
     }
 }
 
-fn differ(last: Plan) {
+fn differ(rt: &impl Print, last: Plan) -> io::Result<()> {
     let mut work = [7u32; 1];
-    start_line(with_last(last), GROUP_LIMIT as u32, &mut work);
+    start_line(rt, with_last(last), GROUP_LIMIT as u32, &mut work)
 }
 
 // The last plan replaced.
@@ -203,98 +205,94 @@ fn with_last(last: Plan) -> [Plan; GROUP_LIMIT] {
     plans
 }
 
-fn start_line(plans: [Plan; GROUP_LIMIT], count: u32, work: &mut [u32]) {
+fn start_line(
+    rt: &impl Print,
+    plans: [Plan; GROUP_LIMIT],
+    count: u32,
+    work: &mut [u32],
+) -> io::Result<()> {
     let started = start_group(plans, count, work);
     let answer = started.answer;
-    number(answer);
-    io::write_all(1, b"start\n");
+    number(rt, answer)?;
+    println!(rt; "start")
 }
 
 // ---- takes, after three rows, which make a row of all but the last job
 
-fn turned_away() {
+fn turned_away(rt: &impl Print) -> io::Result<()> {
     let mut work = [7u32; 48];
     let rows = [9u8; 72];
-    takes(&rows, &mut work);
+    takes(rt, &rows, &mut work)
 }
 
-fn takes(rows: &[u8], work: &mut [u32]) {
+fn takes(rt: &impl Print, rows: &[u8], work: &mut [u32]) -> io::Result<()> {
     let started = start_group(three(), 3, work);
     let fresh = started.group;
     let offered = offer_group(fresh, rows, work);
     let group = offered.group;
-    lengths(group);
-    ready(group, work);
+    lengths(rt, group)?;
+    ready(rt, group, work)
 }
 
 // A job that the group lacks, ahead of wrong lengths; a wrong length, ahead of too few values; and the values of its own part, but not of all
-fn lengths(group: Group) {
+fn lengths(rt: &impl Print, group: Group) -> io::Result<()> {
     let mut byte = [1u8; 1];
     let mut own = [7u32; 16];
     let mut row = [1u8; 8];
-    take_line(group, 3, &mut byte, &mut own);
-    take_line(group, 0, &mut byte, &mut own);
-    take_line(group, 0, &mut row, &mut own);
+    take_line(rt, group, 3, &mut byte, &mut own)?;
+    take_line(rt, group, 0, &mut byte, &mut own)?;
+    take_line(rt, group, 0, &mut row, &mut own)
 }
 
 // None ready, and one
-fn ready(group: Group, work: &mut [u32]) {
+fn ready(rt: &impl Print, group: Group, work: &mut [u32]) -> io::Result<()> {
     let mut row = [1u8; 8];
-    take_line(group, 2, &mut row, work);
-    take_line(group, 1, &mut row, work);
+    take_line(rt, group, 2, &mut row, work)?;
+    take_line(rt, group, 1, &mut row, work)
 }
 
-fn take_line(group: Group, job: u32, out: &mut [u8], work: &mut [u32]) {
+fn take_line(
+    rt: &impl Print,
+    group: Group,
+    job: u32,
+    out: &mut [u8],
+    work: &mut [u32],
+) -> io::Result<()> {
     let taken = take_group(group, job, out, work);
     let answer = taken.answer;
-    number(answer);
-    io::write_all(1, b"take\n");
+    number(rt, answer)?;
+    println!(rt; "take")
 }
 
 // ---- writing
 
-fn number(answer: Checked) {
+fn number(rt: &impl Print, answer: Checked) -> io::Result<()> {
     match answer {
-        Checked::Fit => {
-            io::write_all(1, b"0: ");
-        }
-        Checked::Refused(why) => {
-            io::print_decimal(1, why.number() as u64);
-            io::write_all(1, b": ");
-        }
+        Checked::Fit => { print!(rt; "0: ") }
+        Checked::Refused(why) => { print!(rt; "{}: ", why.number()) }
     }
 }
 
-fn counts(group: Group) {
+fn counts(rt: &impl Print, group: Group) -> io::Result<()> {
     let all = group.jobs[0];
     let rows = group.jobs[1];
     let part = group.jobs[2];
-    count_line(all);
-    count_line(rows);
-    count_line(part);
+    count_line(rt, all)?;
+    count_line(rt, rows)?;
+    count_line(rt, part)
 }
 
 // Rows accepted, rows taken and the flag.
-fn count_line(job: Job) {
-    io::print_decimal(1, job.accepted as u64);
-    io::write_all(1, b" accepted, ");
-    io::print_decimal(1, job.taken as u64);
-    if job.flag {
-        io::write_all(1, b" taken, flag true\n");
-    } else {
-        io::write_all(1, b" taken, flag false\n");
-    }
+fn count_line(rt: &impl Print, job: Job) -> io::Result<()> {
+    println!(rt;
+        "{} accepted, {} taken, flag {}",
+        job.accepted, job.taken, job.flag
+    )
 }
 
-fn hex_line(bytes: &[u8]) {
-    let mut i = 0;
-    while i < bytes.len() {
-        io::print_hex(1, wide(bytes[i]), 2);
-        i += 1;
+fn hex_line(rt: &impl Print, bytes: &[u8]) -> io::Result<()> {
+    for byte in bytes {
+        print!(rt; "{byte:02x}")?;
     }
-    io::write_all(1, b"\n");
-}
-
-fn wide(x: u8) -> u64 {
-    x as u64
+    println!(rt)
 }
