@@ -268,8 +268,8 @@ fn take_line(
 
 fn number(rt: &impl Print, answer: Checked) -> io::Result<()> {
     match answer {
-        Checked::Fit => { print!(rt; "0: ") }
-        Checked::Refused(why) => { print!(rt; "{}: ", why.number()) }
+        Checked::Fit => print!(rt; "0: "),
+        Checked::Refused(why) => print!(rt; "{}: ", why.number()),
     }
 }
 

@@ -293,7 +293,7 @@ fn scaled(rt: &impl Print, w: u32, h: u32, width: u32, height: u32) -> io::Resul
     };
     let answer = size.scaled(width, height);
     match answer {
-        Sized::Size(size) => { println!(rt; "{} by {}", size.width, size.height) }
+        Sized::Size(size) => println!(rt; "{} by {}", size.width, size.height),
         Sized::Refused(why) => refused_line(rt, why),
     }
 }
