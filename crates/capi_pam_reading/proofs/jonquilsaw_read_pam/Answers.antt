@@ -1,0 +1,24 @@
+-- The boundary's test, then the library's answer: a refusal keeps the words, a size is stored. Assumes nothing.
+use Rattle.capi_pam_reading.proofs.PamReadings.{read_misused, read_refused, picture_read}
+use borrow.Author.Rules.{rules}
+use Rattle.capi_pam_reading.proofs.jonquilsaw_read_pam.Goals as goal
+
+pub returns-then-size-lt2 : goal.returns-then-size-lt2
+returns-then-size-lt2 c =
+    let g = c.args in
+    let both = read_misused g.input.now g.size.now c.if-size-lt2.true in
+    record { number = both.0; size = both.1 }
+
+pub returns-in-Refused : goal.returns-in-Refused
+returns-in-Refused c =
+    let g = c.args in
+    let told = rw c.in-Refused.is at c.pam_size-answer.ensures in
+    let both = read_refused g.input.now g.size.now c.if-size-lt2.false c.in-Refused.why told.number c.number.ensures in
+    record { number = both.0; size = both.1 }
+
+pub returns-in-Size : goal.returns-in-Size
+returns-in-Size c =
+    let g = c.args in
+    let told = rw c.in-Size.is at c.pam_size-answer.ensures in
+    let both = picture_read g.input.now g.size.now c.if-size-lt2.false c.in-Size.d told.number told.size c.store.ensures in
+    record { number = both.0; size = both.1 }

@@ -1,0 +1,35 @@
+-- The boundary's test of the lent word, then the library's answer: a refusal keeps the word, a length is stored. Assumes nothing.
+use native.Mathlib.Omega.{arith}
+use Rattle.pam_writing.proofs.Writing.{header_most}
+use Rattle.capi_pam_writing.specs.PamWriting.{bytes_after_pam_header_length}
+use Rattle.capi_pam_writing.proofs.PamWritings.{length_misused, length_refused, length_stored}
+use borrow.Author.Rules.{rules}
+use Rattle.capi_pam_writing.proofs.jonquilsaw_pam_header_length.Goals as goal
+
+pub returns-then-bytes-lt1 : goal.returns-then-bytes-lt1
+unfolding bytes_after_pam_header_length
+returns-then-bytes-lt1 c =
+    let g = c.args in
+    let both = length_misused g.width g.height g.bytes.now _ c.if-bytes-lt1.true in
+    record { number = both.0; bytes = both.1 }
+
+pub overflow_cast-head : goal.overflow_cast-head
+overflow_cast-head c =
+    let told = rw c.in-Bytes.is at c.pam_header_length-header.ensures in
+    omega (arith, header_most _ c.in-Bytes.k told.number told.bytes)
+
+pub returns-in-Refused : goal.returns-in-Refused
+unfolding bytes_after_pam_header_length
+returns-in-Refused c =
+    let g = c.args in
+    let told = rw c.in-Refused.is at c.pam_header_length-header.ensures in
+    let both = length_refused g.width g.height g.bytes.now _ c.if-bytes-lt1.false c.in-Refused.why told.number c.number.ensures in
+    record { number = both.0; bytes = both.1 }
+
+pub returns-in-Bytes : goal.returns-in-Bytes
+unfolding bytes_after_pam_header_length
+returns-in-Bytes c =
+    let g = c.args in
+    let told = rw c.in-Bytes.is at c.pam_header_length-header.ensures in
+    let both = length_stored g.width g.height g.bytes.now _ c.if-bytes-lt1.false c.in-Bytes.k told.number told.bytes c.store.ensures in
+    record { number = both.0; bytes = both.1 }

@@ -1,0 +1,34 @@
+-- The boundary's test of the lent word, then the library's answer: a refusal keeps the word, a length is stored. Assumes nothing.
+use native.Mathlib.Omega.{arith}
+use Rattle.capi_pam_writing.specs.PamWriting.{bytes_after_pam_length}
+use Rattle.capi_pam_writing.proofs.PamWritings.{length_misused, length_refused, length_stored, file_most}
+use borrow.Author.Rules.{rules}
+use Rattle.capi_pam_writing.proofs.jonquilsaw_pam_length.Goals as goal
+
+pub returns-then-bytes-lt1 : goal.returns-then-bytes-lt1
+unfolding bytes_after_pam_length
+returns-then-bytes-lt1 c =
+    let g = c.args in
+    let both = length_misused g.width g.height g.bytes.now _ c.if-bytes-lt1.true in
+    record { number = both.0; bytes = both.1 }
+
+pub overflow_cast-whole : goal.overflow_cast-whole
+overflow_cast-whole c =
+    let told = rw c.in-Bytes.is at c.pam_length-file.ensures in
+    omega (arith, file_most _ c.in-Bytes.n told.number told.bytes)
+
+pub returns-in-Refused : goal.returns-in-Refused
+unfolding bytes_after_pam_length
+returns-in-Refused c =
+    let g = c.args in
+    let told = rw c.in-Refused.is at c.pam_length-file.ensures in
+    let both = length_refused g.width g.height g.bytes.now _ c.if-bytes-lt1.false c.in-Refused.why told.number c.number.ensures in
+    record { number = both.0; bytes = both.1 }
+
+pub returns-in-Bytes : goal.returns-in-Bytes
+unfolding bytes_after_pam_length
+returns-in-Bytes c =
+    let g = c.args in
+    let told = rw c.in-Bytes.is at c.pam_length-file.ensures in
+    let both = length_stored g.width g.height g.bytes.now _ c.if-bytes-lt1.false c.in-Bytes.n told.number told.bytes c.store.ensures in
+    record { number = both.0; bytes = both.1 }

@@ -1,0 +1,39 @@
+-- `add_to_first`: the first k values are sums of what stood there and in the second half, the rest is as it was. Assumes nothing.
+use Rattle.std.proofs.Common.{◌≡◌, ℕ, ◌+◌, ◌-◌, ◌<◌, List, get_or, set, ◌∙◌, ap₂, arith, rules}
+use Rattle.arithmetic.specs.Word.{wrap_add}
+use Rattle.arithmetic.proofs.Stores.{Stored, none_stored, store, same, ahead, all_stored}
+use Rattle.rows.specs.WorkRows.{added}
+use Rattle.rows_adding.proofs.add_to_first.Invariants.{summed}
+use Rattle.rows_adding.proofs.add_to_first.Goals as goal
+
+turn : {work₀ work : List ℕ} {w k : ℕ} (v : ℕ) → Stored (summed w work₀) work₀ work w k → k < w → v ≡ wrap_add (get_or work k 0) (get_or work (w + k) 0)
+    → Stored (summed w work₀) work₀ (set work k v) w (k + 1)
+turn {w = w} {k = k} v i t e = store i t (e ∙ ap₂ (λ (a b : ℕ). wrap_add a b) (ahead i k (omega arith)) (ahead i (w + k) (omega arith)))
+
+pub loop-k-init : goal.loop-k-init
+loop-k-init c = none_stored _ (omega (arith, c.requires))
+
+pub bounds-work-k : goal.bounds-work-k
+bounds-work-k c = omega (arith, same c.loop-k.invariant, c.requires, c.loop-k-test.true)
+
+pub bounds-work-w : goal.bounds-work-w
+bounds-work-w c = omega (arith, same c.loop-k.invariant, c.requires, c.loop-k-test.true)
+
+pub wrapping_add_u32-requires : goal.wrapping_add_u32-requires
+wrapping_add_u32-requires c = tt
+
+pub bounds-work-k-in-loop-k : goal.bounds-work-k-in-loop-k
+bounds-work-k-in-loop-k c = omega (arith, same c.loop-k.invariant, c.requires, c.loop-k-test.true)
+
+pub loop-k-smaller : goal.loop-k-smaller
+loop-k-smaller c = omega (arith, c.loop-k-test.true)
+
+pub loop-k-preserved : goal.loop-k-preserved
+loop-k-preserved c = turn c.wrapping_add_u32.result c.loop-k.invariant c.loop-k-test.true c.wrapping_add_u32.ensures.value
+
+pub shape_of-work : goal.shape_of-work
+shape_of-work c = same c.loop-k.invariant
+
+pub returns : goal.returns
+unfolding added
+returns c = all_stored c.loop-k.invariant c.loop-k-test.false

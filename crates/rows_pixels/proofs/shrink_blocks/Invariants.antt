@@ -1,0 +1,14 @@
+-- `shrink_blocks`: the invariant is `Standing`, and that the sums are those of the block that the column is in. Assumes nothing.
+use Prim.Native.Nat.{◌-◌, ◌%◌, ◌<◌}
+use native.Mathlib.Omega.{arith}
+use Rattle.rows_pixels.specs.Inner.{Ready}
+use Rattle.rows_pixels.proofs.Standing.{Standing, standing_first, standing_next, standing_last, standing_end, standing_more, standing_done, standing_length, inside}
+use Rattle.rows_pixels.proofs.Blocks.{apart_of, fill_asks, ready_in, filled_out, ready_first, ready_next, filled_column, column_pairs, column_pixels}
+use borrow.Author.Rules.{rules}
+use Rattle.rows_pixels.proofs.shrink_blocks.Given as goal
+
+abbrev pub invariant-loop-j : goal.invariant-loop-j
+invariant-loop-j l = Standing l.row l.initial.half l.n l.m l.p l.half l.carry l.s.x l.s.over l.j × Ready l.row l.p.a l.n l.m l.j l.sums
+
+abbrev pub decreases-loop-j : goal.decreases-loop-j
+decreases-loop-j l = l.m - l.j
