@@ -58,10 +58,10 @@ loop-i-preserved c =
     let most = c.most_rows-most.ensures in
     let put = rw c.row_form-form.ensures at c.put_source_row.ensures.work in
     let fed = next_fed a.j a.rows.now a.work.now _ pre most l.work l.i l.invariant _ c.row_bytes-stride.ensures _ put in
-    accepting_more a.j a.rows.now a.work.now _ pre most l.work l.i l.invariant _ fed c.put_source_row.auto.work.1.1.1.1.0 c.if-i-most.false (rw c.rows_by-made.ensures at c.if-j-made.false)
+    accepting_more a.j a.rows.now a.work.now _ pre most l.work l.i l.invariant _ fed c.put_source_row.auto.work c.if-i-most.false (rw c.rows_by-made.ensures at c.if-j-made.false)
 
 pub shape_of-work-then-i-most : goal.shape_of-work-then-i-most
-shape_of-work-then-i-most c = c.put_source_row.auto.work.1.1.1.1.0 ∙ c.loop-i.invariant.long
+shape_of-work-then-i-most c = c.put_source_row.auto.work ∙ c.loop-i.invariant.long
 
 pub returns-then-i-most : goal.returns-then-i-most
 returns-then-i-most c =
@@ -77,7 +77,7 @@ returns-then-i-most c =
     }
 
 pub shape_of-work-then-j-made : goal.shape_of-work-then-j-made
-shape_of-work-then-j-made c = c.put_source_row.auto.work.1.1.1.1.0 ∙ c.loop-i.invariant.long
+shape_of-work-then-j-made c = c.put_source_row.auto.work ∙ c.loop-i.invariant.long
 
 pub returns-then-j-made : goal.returns-then-j-made
 returns-then-j-made c =

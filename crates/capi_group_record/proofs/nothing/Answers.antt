@@ -1,0 +1,6 @@
+-- No group. Assumes nothing.
+use borrow.Author.Rules.{rules}
+use Rattle.capi_group_record.proofs.nothing.Goals as goal
+
+pub returns : goal.returns
+returns c = rw c.no_group.ensures

@@ -1,0 +1,13 @@
+-- All jobs have been fed the rows so far. Assumes nothing.
+use mathlib.Core.Path.{◌≡◌}
+use Prim.Native.Nat.{◌-◌}
+use native.Mathlib.Omega.{arith}
+use Rattle.group.proofs.Feeding.{Rows, rows_first, row_lent, row_number, row_asks, rows_more}
+use borrow.Author.Rules.{rules}
+use Rattle.group.proofs.feed_rows.Given as goal
+
+abbrev pub invariant-loop-r : goal.invariant-loop-r
+invariant-loop-r l = Rows l.g l.c l.rows l.initial.work l.work l.r
+
+abbrev pub decreases-loop-r : goal.decreases-loop-r
+decreases-loop-r l = l.c - l.r

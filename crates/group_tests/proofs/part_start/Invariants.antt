@@ -1,0 +1,13 @@
+-- `part_start`: the loop of `Summing`. Assumes nothing.
+use borrow.Author.Rules.{rules}
+use mathlib.Core.Path.{◌≡◌}
+use Prim.Native.Nat.{◌≤◌, ◌-◌}
+use native.Mathlib.Omega.{arith}
+use Rattle.group_tests.proofs.Summing.{Summing, summing_first, within, half_most, sum_most, summing_more, summed}
+use Rattle.group_tests.proofs.part_start.Given as goal
+
+abbrev pub invariant-loop-i : goal.invariant-loop-i
+invariant-loop-i l = Summing l.g l.n l.at l.i
+
+abbrev pub decreases-loop-i : goal.decreases-loop-i
+decreases-loop-i l = l.n - l.i

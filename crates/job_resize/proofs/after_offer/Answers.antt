@@ -1,0 +1,11 @@
+-- The next record of an offer, whichever the answer is. Assumes nothing.
+use Rattle.job.specs.Answers.{offeredJob}
+use mathlib.Core.Path.{sym, ap, ◌∙◌}
+use borrow.Author.Rules.{rules}
+use Rattle.job_resize.proofs.after_offer.Goals as goal
+
+pub returns-in-Accepted : goal.returns-in-Accepted
+returns-in-Accepted c = sym (ap offeredJob c.in-Accepted.is)
+
+pub returns-in-Refused : goal.returns-in-Refused
+returns-in-Refused c = sym (ap offeredJob c.in-Refused.is)

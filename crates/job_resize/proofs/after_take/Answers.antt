@@ -1,0 +1,11 @@
+-- The next record of a take, whichever the answer is. Assumes nothing.
+use Rattle.job.specs.Answers.{takenJob}
+use mathlib.Core.Path.{sym, ap, ◌∙◌}
+use borrow.Author.Rules.{rules}
+use Rattle.job_resize.proofs.after_take.Goals as goal
+
+pub returns-in-Wrote : goal.returns-in-Wrote
+returns-in-Wrote c = sym (ap takenJob c.in-Wrote.is)
+
+pub returns-in-Refused : goal.returns-in-Refused
+returns-in-Refused c = sym (ap takenJob c.in-Refused.is)

@@ -1,0 +1,11 @@
+-- The plan of a plane is begun. Assumes nothing.
+use borrow.Author.Rules.{rules}
+use Rattle.job_start.proofs.start_plane.Goals as goal
+
+pub returns : goal.returns
+returns c =
+    record {
+      number = c.begin.ensures.number;
+      job = c.begin.ensures.job;
+      work = c.begin.ensures.work;
+    }
