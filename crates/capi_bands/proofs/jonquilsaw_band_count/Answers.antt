@@ -24,7 +24,6 @@ returns-in_default c =
     let if1 = c.if-count-lt1 in
     let number = c.number in
     let read-job = c.read_job-told in
-    let enum_told = c.enum_told-1 in
     let g = args in
     let both = count_no_record g.«record».now g.count.now if1.false number.result read-job.ensures c.in_default.is number.ensures in
     record { number = both.0; count = both.1 }
@@ -32,22 +31,19 @@ returns-in_default c =
 pub returns-then-not-check : goal.returns-then-not-check
 returns-then-not-check c =
     let args = c.args in
-    let told = c.told-1 in
     let if1 = c.if-count-lt1 in
     let read-job = c.read_job-told in
     let check = c.check in
     let number2 = c.number-then-not-check in
     let if2 = c.if-not-check in
     let g = args in
-    let j = told.given in
-    let both = count_refused g.«record».now g.count.now if1.false j.0.0 read-job.ensures j.1 _ check.ensures number2.result if2.true-raw
+    let both = count_refused g.«record».now g.count.now if1.false c.in-Job.job read-job.ensures c.in-Job.is _ check.ensures number2.result if2.true-raw
         number2.ensures in
     record { number = both.0; count = both.1 }
 
 pub returns : goal.returns
 returns c =
     let args = c.args in
-    let told = c.told-1 in
     let if1 = c.if-count-lt1 in
     let read-job = c.read_job-told in
     let check = c.check in
@@ -55,7 +51,6 @@ returns c =
     let band-rows = c.band_rows in
     let store = c.store in
     let g = args in
-    let j = told.given in
-    let both = count_told g.«record».now g.count.now if1.false j.0.0 read-job.ensures j.1 _ check.ensures _ _ if2.false-raw
+    let both = count_told g.«record».now g.count.now if1.false c.in-Job.job read-job.ensures c.in-Job.is _ check.ensures _ _ if2.false-raw
         band-rows.ensures store.ensures in
     record { number = both.0; count = both.1 }

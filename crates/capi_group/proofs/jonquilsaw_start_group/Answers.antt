@@ -9,7 +9,7 @@ returns-then-not-told c =
     let g = c.args in
     let t = c.read_plans-told in
     let both = start_misused g.plans.now g.count g.work.now g.«record».now t.result t.ensures (not-true _ c.if-not-told.true) in
-    record { number = both.0; work = both.1.0; record = both.1.1 }
+    record { number = both.0; work = both.1.0; «record» = both.1.1 }
 
 pub returns-in-Refused : goal.returns-in-Refused
 returns-in-Refused c =
@@ -18,7 +18,7 @@ returns-in-Refused c =
     let t = c.read_plans-told in
     let legal = not-false _ c.if-not-told.false in
     let both = start_refused g.plans.now g.count g.work.now g.«record».now t.result t.ensures legal _ b.result.answer b.ensures.number b.ensures.work c.in-Refused.why c.number.result c.in-Refused.is c.number.ensures in
-    record { number = both.0; work = both.1.0; record = both.1.1 }
+    record { number = both.0; work = both.1.0; «record» = both.1.1 }
 
 pub returns-in-Fit : goal.returns-in-Fit
 returns-in-Fit c =
@@ -28,4 +28,4 @@ returns-in-Fit c =
     let legal = not-false _ c.if-not-told.false in
     let fit = c.in-Fit.is in
     let both = start_fresh g.plans.now g.count g.work.now g.«record».now t.result t.ensures legal _ b.result.answer b.ensures.number b.ensures.work b.result.group _ fit b.ensures.group c.store_group.ensures in
-    record { number = both.0; work = both.1.0; record = both.1.1 }
+    record { number = both.0; work = both.1.0; «record» = both.1.1 }

@@ -15,7 +15,7 @@ returns-then-misused c =
     record {
       number = misuse_told _ e f;
       work = misuse_kept _ e f _ g.work.now;
-      record = misuse_kept _ e f _ g.«record».now;
+      «record» = misuse_kept _ e f _ g.«record».now;
     }
 
 pub returns-in-Refused : goal.returns-in-Refused
@@ -27,7 +27,7 @@ returns-in-Refused c =
     let e = c.misused.ensures in
     let f = c.if-misused.false in
     let both = start_refused p g.work.now g.«record».now _ c.start-answer.result e f s.number s.work c.in-Refused.why c.number.result c.in-Refused.is c.number.ensures in
-    record { number = both.0; work = both.1.0; record = both.1.1 }
+    record { number = both.0; work = both.1.0; «record» = both.1.1 }
 
 pub returns-in-Fresh : goal.returns-in-Fresh
 unfolding number_of_start work_after_start record_after_start
@@ -38,4 +38,4 @@ returns-in-Fresh c =
     let e = c.misused.ensures in
     let f = c.if-misused.false in
     let both = start_fresh p g.work.now g.«record».now _ c.start-answer.result e f s.number s.work c.in-Fresh.job _ c.in-Fresh.is s.job c.store_job.ensures in
-    record { number = both.0; work = both.1.0; record = both.1.1 }
+    record { number = both.0; work = both.1.0; «record» = both.1.1 }
