@@ -37,9 +37,9 @@ pub record ResizeFits (source target : Dimensions) (n m w : ℕ) : Type 0 where
   pub output : m ≡ picture_bytes pixel_lanes target.width target.height
   pub room : work_values pixel_lanes target.width ≤ w
 
-pub resize-fits : (source target : Dimensions) (n m w : ℕ) → resize_number source target n m w ≡ 0 → ResizeFits source target n m w
+pub resize_fits : (source target : Dimensions) (n m w : ℕ) → resize_number source target n m w ≡ 0 → ResizeFits source target n m w
 unfolding resize_number sizes_number
-resize-fits source target n m w e =
+resize_fits source target n m w e =
     let q = none_applies (resize_causes source target n m w) e in
     record {
       sizes = fits_of source (full_crop source) target (first_none (sizes_causes source (full_crop source) target) (q.0, (q.1.0, tt)));
@@ -49,9 +49,9 @@ resize-fits source target n m w e =
     }
 
 -- the job with the full crop starts
-pub start-passes : (source : Dimensions) (layout : PixelLayout) (target : Dimensions) (n m w : ℕ) → resize_number source target n m w ≡ 0 → start_number (resize_plan source layout target) w ≡ 0
+pub start_passes : (source : Dimensions) (layout : PixelLayout) (target : Dimensions) (n m w : ℕ) → resize_number source target n m w ≡ 0 → start_number (resize_plan source layout target) w ≡ 0
 unfolding resize_number start_number
-start-passes source layout target n m w e =
+start_passes source layout target n m w e =
     let q = none_applies (resize_causes source target n m w) e in
     first_none (start_causes (resize_plan source layout target) w) (q.0, (lanes_good pixel_lanes (record { some = omega arith; most = omega arith }), (q.1.0, (q.1.1.1.1.0, tt))))
 
@@ -66,21 +66,21 @@ module _ (source : Dimensions) (layout : PixelLayout) (target : Dimensions) (pix
       × ((flag ≡ resize_flag source layout target pixels (length out) (length work))
       × ((out' ≡ resize_out source layout target pixels out (length work)) × (work' ≡ resize_work source layout target pixels (length out) work)))
 
-  pub resize-refused : (why : Refusal) → n ≡ number why → Answers (number why) false out work
+  pub resize_refused : (why : Refusal) → n ≡ number why → Answers (number why) false out work
   unfolding resize_flag resize_out resize_work
-  resize-refused why e = let z = not_zero why n e in (sym e, (simp z, (simp z, simp z)))
+  resize_refused why e = let z = not_zero why n e in (sym e, (simp z, (simp z, simp z)))
 
   -- ---- the job
   module _ (goes : n ≡ 0) (crop : Rect) (full : crop ≡ full_crop source) where
-    started-is : start_number (plan_of source layout crop target) (length work) ≡ 0
-    started-is = rw full (start-passes source layout target (length pixels) (length out) (length work) goes)
+    started_is : start_number (plan_of source layout crop target) (length work) ≡ 0
+    started_is = rw full (start_passes source layout target (length pixels) (length out) (length work) goes)
 
     pub never : (why : Refusal) (r : Started) → started_number r ≡ start_number (plan_of source layout crop target) (length work) → r ≡ started.Refused why → ⊥
-    never why r told e = omega (arith, number_pos why, sym (ap started_number e) ∙ told ∙ started-is)
+    never why r told e = omega (arith, number_pos why, sym (ap started_number e) ∙ told ∙ started_is)
 
-    module _ (job : Job) (r : Started) (told : started_job (fresh (plan_of source layout crop target)) r ≡ fresh (plan_of source layout crop target)) (e : r ≡ started.Fresh job) (begun : List ℕ) (begun-is : begun ≡ start_work (plan_of source layout crop target) work) where
+    module _ (job : Job) (r : Started) (told : started_job (fresh (plan_of source layout crop target)) r ≡ fresh (plan_of source layout crop target)) (e : r ≡ started.Fresh job) (begun : List ℕ) (begun_is : begun ≡ start_work (plan_of source layout crop target) work) where
       abbrev fits : ResizeFits source target (length pixels) (length out) (length work)
-      fits = resize-fits source target (length pixels) (length out) (length work) goes
+      fits = resize_fits source target (length pixels) (length out) (length work) goes
 
       abbrev both : ℕ
       both = work_values pixel_lanes target.width
@@ -88,19 +88,19 @@ module _ (source : Dimensions) (layout : PixelLayout) (target : Dimensions) (pix
       job_is : job ≡ fresh (resize_plan source layout target)
       job_is = rw full at (sym (ap (started_job (fresh (plan_of source layout crop target))) e) ∙ told)
 
-      begun-cleared : begun ≡ cleared (resize_plan source layout target) work
+      begun_cleared : begun ≡ cleared (resize_plan source layout target) work
       unfolding start_work
-      begun-cleared = begun-is ∙ simp (eq-eqb _ 0 started-is)
+      begun_cleared = begun_is ∙ simp (eq-eqb _ 0 started_is)
 
       begun_rest : drop both begun ≡ drop both work
-      begun_rest = ap (drop both) begun-cleared ∙ drop_at (replicate both 0) (drop both work) both (length-replicate both 0)
+      begun_rest = ap (drop both) begun_cleared ∙ drop_at (replicate both 0) (drop both work) both (length-replicate both 0)
 
       picture_fits : kind_fits Picture layout pixel_lanes false ≡ true
       unfolding kind_fits
       picture_fits = refl
 
-      pub job-asked : Asked job pixels out begun
-      job-asked =
+      pub job_asked : Asked job pixels out begun
+      job_asked =
           subst (λ (j : Job). Asked j pixels out begun) (sym job_is)
           (record {
             fresh_is = refl;
@@ -108,8 +108,8 @@ module _ (source : Dimensions) (layout : PixelLayout) (target : Dimensions) (pix
             kind_fitting = picture_fits;
             pixels_long = fits.picture;
             out_long = fits.output;
-            room = rw (begun-cleared, length-append, length-replicate) (omega arith);
-            clear = begun-cleared ∙ ap (λ (s : List ℕ). replicate both 0 ++ s) (sym begun_rest);
+            room = rw (begun_cleared, length-append, length-replicate) (omega arith);
+            clear = begun_cleared ∙ ap (λ (s : List ℕ). replicate both 0 ++ s) (sym begun_rest);
           })
 
       pub finishes : (flag : Bool) (out' work' : List ℕ) → Driven job.plan pixels begun flag out' work' → Answers 0 flag out' work'
@@ -121,4 +121,4 @@ module _ (source : Dimensions) (layout : PixelLayout) (target : Dimensions) (pix
           let g : Driven p pixels begun flag out' work' = subst (λ (j : Job). Driven j.plan pixels begun flag out' work') job_is d in
           let z = eq-eqb n 0 goes in
           let rest = ap (λ (s : List ℕ). tabulate (last_first p b) w ++ (tabulate (last_second p b) w ++ s)) begun_rest in
-          (sym goes, (g.flag-is ∙ simp z, (g.out_is ∙ simp z, g.work_is ∙ rest ∙ simp z)))
+          (sym goes, (g.flag_is ∙ simp z, (g.out_is ∙ simp z, g.work_is ∙ rest ∙ simp z)))

@@ -75,7 +75,7 @@ going_first p pixels out₀ work₀ fits kind pl ol room =
     let w : ℕ = work_values (lanes_of p) p.target.width in
     record {
       plan_is = refl;
-      rules = record { sizes = fits; rows = omega arith; low = omega (arith, none); high = omega arith; kind_fits = kind; flagless = λ q. refl };
+      rules = record { sizes = fits; rows = omega arith; low = omega (arith, none); high = omega arith; kind_fitting = kind; flagless = λ q. refl };
       pixels_long = pl;
       out_long = ol;
       room = rw (length-append, length-replicate) (omega arith);

@@ -19,6 +19,6 @@ pub returns : goal.returns
 returns c =
     let a = c.args in
     let taken = rw c.row_bytes-size.ensures at c.take.ensures in
-    let both = rw c.row_bytes-size.ensures
-        (emits a.job a.out.now a.work.now _ (end_less_start _ _) (c.requires) _ (c.after_take.ensures ∙ taken.job) _ taken.out _ taken.work) in
-    record { job = both.0; out = both.1.0; work = both.1.1 }
+    rw c.row_bytes-size.ensures
+        (let both = emits a.job a.out.now a.work.now _ (end_less_start _ _) (c.requires) _ (c.after_take.ensures ∙ taken.job) _ taken.out _ taken.work in
+        record { job = both.0; out = both.1.0; work = both.1.1 })

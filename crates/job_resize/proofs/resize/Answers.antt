@@ -1,14 +1,14 @@
 -- A refusal is handed on with its number; else the job is started and driven to its end. Assumes nothing.
 use mathlib.Core.Path.{sym}
 use borrow.Author.Rules.{rules}
-use Rattle.job_resize.proofs.Answers.{resize-refused, never, job-asked, finishes}
+use Rattle.job_resize.proofs.Answers.{resize_refused, never, job_asked, finishes}
 use Rattle.job_resize.proofs.resize.Goals as goal
 
 pub returns-in-Refused : goal.returns-in-Refused
 returns-in-Refused c =
     let a = c.args in
     let told = sym (rw c.in-Refused.is at c.check_resize-checked.ensures) in
-    let both = resize-refused a.source a.layout a.target a.pixels.now a.out.now a.work.now c.in-Refused.why told in
+    let both = resize_refused a.source a.layout a.target a.pixels.now a.out.now a.work.now c.in-Refused.why told in
     record { number = both.0; flag = both.1.0; out = both.1.1.0; work = both.1.1.1 }
 
 pub drive-last-requires : goal.drive-last-requires
@@ -16,15 +16,14 @@ drive-last-requires c =
     let full = c.new-crop.ensures in
     let z = sym (rw c.in-Fit.is at c.check_resize-checked.ensures) in
     let a = c.args in
-    job-asked a.source a.layout a.target a.pixels.now a.out.now a.work.now z _ full _ _ c.start-started.ensures.job c.in-Fresh.is _ c.start-started.ensures.work
+    job_asked a.source a.layout a.target a.pixels.now a.out.now a.work.now z _ full _ _ c.start-started.ensures.job c.in-Fresh.is _ c.start-started.ensures.work
 
 pub returns-in-Refused-started : goal.returns-in-Refused-started
 returns-in-Refused-started c =
     let full = c.new-crop.ensures in
     let z = sym (rw c.in-Fit.is at c.check_resize-checked.ensures) in
     let a = c.args in
-    let both = absurd (never a.source a.layout a.target a.pixels.now a.out.now a.work.now z _ full _ _ c.start-started.ensures.number c.in-Refused-started.is) in
-    record { number = both.0; flag = both.1.0; out = both.1.1.0; work = both.1.1.1 }
+    absurd (never a.source a.layout a.target a.pixels.now a.out.now a.work.now z _ full _ _ c.start-started.ensures.number c.in-Refused-started.is)
 
 pub returns-in-Fresh : goal.returns-in-Fresh
 returns-in-Fresh c =
