@@ -1,0 +1,37 @@
+-- The boundary's test, then the library's answer: a refusal keeps the words, a size is stored. Assumes nothing.
+use mathlib.Core.Path.{refl}
+use lib.ListN.{length}
+use borrow.Author.Tests.{lt-ltb, le-ltb}
+use Rattle.capi_words.proofs.Boundary.{misuse_told, misuse_kept, passed}
+use Rattle.capi_pictures.specs.Pictures.{number_of_scaled, size_after_scaled}
+use Rattle.capi_pictures.proofs.Answers.{size-refused, size-stored}
+use borrow.Author.Rules.{rules}
+use Rattle.capi_pictures.proofs.jonquilsaw_scaled.Goals as goal
+
+pub returns-then-size-lt2 : goal.returns-then-size-lt2
+unfolding number_of_scaled size_after_scaled
+returns-then-size-lt2 c =
+    let g = c.args in
+    let f = lt-ltb (length g.size.now) 2 c.if-size-lt2.true in
+    record {
+      number = misuse_told _ refl f;
+      size = misuse_kept _ refl f _ g.size.now;
+    }
+
+pub returns-in-Refused : goal.returns-in-Refused
+unfolding number_of_scaled size_after_scaled
+returns-in-Refused c =
+    let g = c.args in
+    let f = le-ltb (length g.size.now) 2 c.if-size-lt2.false in
+    let s = c.scaled-answer in
+    let both = size-refused s.result _ _ _ (passed _ refl f) s.ensures.number c.in-Refused.why c.number.result g.size.now c.in-Refused.is c.number.ensures in
+    record { number = both.0; size = both.1 }
+
+pub returns-in-Size : goal.returns-in-Size
+unfolding number_of_scaled size_after_scaled
+returns-in-Size c =
+    let g = c.args in
+    let f = le-ltb (length g.size.now) 2 c.if-size-lt2.false in
+    let s = c.scaled-answer in
+    let both = size-stored s.result _ _ _ (passed _ refl f) s.ensures.number c.in-Size.d _ g.size.now c.in-Size.is s.ensures.size c.store.ensures in
+    record { number = both.0; size = both.1 }

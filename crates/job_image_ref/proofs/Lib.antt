@@ -1,4 +1,0 @@
-pub mod Clauses
-pub mod Fields
-pub mod Getters
-pub mod Tag
