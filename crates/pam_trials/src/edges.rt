@@ -1,16 +1,18 @@
 // 11 at the edges of a header: the first line, its end, and an input that stops before it.
 use crate::each;
+use std::io;
 
-pub(crate) fn trials() {
-    first_line();
-    beside_first();
-    stops();
-    no_end();
+pub(crate) fn trials(rt: &impl Print) -> io::Result<()> {
+    first_line(rt)?;
+    beside_first(rt)?;
+    stops(rt)?;
+    no_end(rt)
 }
 
 // No first line, half of one, another.
-fn first_line() {
+fn first_line(rt: &impl Print) -> io::Result<()> {
     each(
+        rt,
         b"empty input\n~\
         byte 10 alone\n\n~\
         P and nothing\nP~\
@@ -29,12 +31,13 @@ fn first_line() {
         PP7\nPP7\nWIDTH 2\nHEIGHT 1\nDEPTH 4\nMAXVAL 255\nTUPLTYPE RGB_ALPHA\nENDHDR\nabcdefgh~\
         P07\nP07\nWIDTH 2\nHEIGHT 1\nDEPTH 4\nMAXVAL 255\nTUPLTYPE RGB_ALPHA\nENDHDR\nabcdefgh~\
         O7\nO7\nWIDTH 2\nHEIGHT 1\nDEPTH 4\nMAXVAL 255\nTUPLTYPE RGB_ALPHA\nENDHDR\nabcdefgh~",
-    );
+    )
 }
 
 // P7 and something beside it.
-fn beside_first() {
+fn beside_first(rt: &impl Print) -> io::Result<()> {
     each(
+        rt,
         b"blank before P7\n P7\nWIDTH 2\nHEIGHT 1\nDEPTH 4\nMAXVAL 255\nTUPLTYPE RGB_ALPHA\nENDHDR\nabcdefgh~\
         blank after P7\nP7 \nWIDTH 2\nHEIGHT 1\nDEPTH 4\nMAXVAL 255\nTUPLTYPE RGB_ALPHA\nENDHDR\nabcdefgh~\
         byte 13 after P7\nP7\r\nWIDTH 2\nHEIGHT 1\nDEPTH 4\nMAXVAL 255\nTUPLTYPE RGB_ALPHA\nENDHDR\nabcdefgh~\
@@ -45,12 +48,13 @@ fn beside_first() {
         P7 twice\nP7\nP7\nWIDTH 2\nHEIGHT 1\nDEPTH 4\nMAXVAL 255\nTUPLTYPE RGB_ALPHA\nENDHDR\nabcdefgh~\
         P7 before ENDHDR\nP7\nWIDTH 2\nHEIGHT 1\nDEPTH 4\nMAXVAL 255\nTUPLTYPE RGB_ALPHA\nP7\nENDHDR\nabcdefgh~\
         bytes 239, 187, 191 before P7\n\xef\xbb\xbfP7\nWIDTH 2\nHEIGHT 1\nDEPTH 4\nMAXVAL 255\nTUPLTYPE RGB_ALPHA\nENDHDR\nabcdefgh~",
-    );
+    )
 }
 
 // An input that stops after each line and inside it.
-fn stops() {
+fn stops(rt: &impl Print) -> io::Result<()> {
     each(
+        rt,
         b"ends after the first line\nP7\n~\
         ends after WIDTH\nP7\nWIDTH 2\n~\
         ends after HEIGHT\nP7\nWIDTH 2\nHEIGHT 1\n~\
@@ -68,12 +72,13 @@ fn stops() {
         ends in ENDHDR\nP7\nWIDTH 2\nHEIGHT 1\nDEPTH 4\nMAXVAL 255\nTUPLTYPE RGB_ALPHA\nENDHD~\
         ENDHDR without byte 10\nP7\nWIDTH 2\nHEIGHT 1\nDEPTH 4\nMAXVAL 255\nTUPLTYPE RGB_ALPHA\nENDHDR~\
         ENDHDR, byte 13, no byte 10\nP7\nWIDTH 2\nHEIGHT 1\nDEPTH 4\nMAXVAL 255\nTUPLTYPE RGB_ALPHA\nENDHDR\r~",
-    );
+    )
 }
 
 // The end left out, or in the wrong place.
-fn no_end() {
+fn no_end(rt: &impl Print) -> io::Result<()> {
     each(
+        rt,
         b"ENDHDR left out\nP7\nWIDTH 2\nHEIGHT 1\nDEPTH 4\nMAXVAL 255\nTUPLTYPE RGB_ALPHA\nabcdefgh~\
         ENDHDR left out, pixels of lines\nP7\nWIDTH 2\nHEIGHT 1\nDEPTH 4\nMAXVAL 255\nTUPLTYPE RGB_ALPHA\nabc\nefg\n~\
         ENDHDR first\nP7\nENDHDR\nWIDTH 2\nHEIGHT 1\nDEPTH 4\nMAXVAL 255\nTUPLTYPE RGB_ALPHA\nabcdefgh~\
@@ -81,5 +86,5 @@ fn no_end() {
         MAXVAL after ENDHDR\nP7\nWIDTH 2\nHEIGHT 1\nDEPTH 4\nTUPLTYPE RGB_ALPHA\nENDHDR\nMAXVAL 255\n~\
         a line outside the form, not ended\nP7\nWIDTH 2\nLENGTH 3\n~\
         WIDTH twice, not ended\nP7\nWIDTH 2\nWIDTH 2\n~",
-    );
+    )
 }

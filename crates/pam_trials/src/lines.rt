@@ -1,17 +1,19 @@
 // 11 by numbers and lines: no decimal number, a line left out, given twice, or of another word.
 use crate::each;
+use std::io;
 
-pub(crate) fn trials() {
-    signs();
-    letters();
-    missing_line();
-    twice();
-    other_lines();
+pub(crate) fn trials(rt: &impl Print) -> io::Result<()> {
+    signs(rt)?;
+    letters(rt)?;
+    missing_line(rt)?;
+    twice(rt)?;
+    other_lines(rt)
 }
 
 // A number with a sign, a point, a prefix.
-fn signs() {
+fn signs(rt: &impl Print) -> io::Result<()> {
     each(
+        rt,
         b"width +2\nP7\nWIDTH +2\nHEIGHT 1\nDEPTH 4\nMAXVAL 255\nTUPLTYPE RGB_ALPHA\nENDHDR\nabcdefgh~\
         height -1\nP7\nWIDTH 2\nHEIGHT -1\nDEPTH 4\nMAXVAL 255\nTUPLTYPE RGB_ALPHA\nENDHDR\nabcdefgh~\
         depth +4\nP7\nWIDTH 2\nHEIGHT 1\nDEPTH +4\nMAXVAL 255\nTUPLTYPE RGB_ALPHA\nENDHDR\nabcdefgh~\
@@ -22,12 +24,13 @@ fn signs() {
         width 0x2\nP7\nWIDTH 0x2\nHEIGHT 1\nDEPTH 4\nMAXVAL 255\nTUPLTYPE RGB_ALPHA\nENDHDR\nabcdefgh~\
         maximum 0xff\nP7\nWIDTH 2\nHEIGHT 1\nDEPTH 4\nMAXVAL 0xff\nTUPLTYPE RGB_ALPHA\nENDHDR\nabcdefgh~\
         maximum 2,55\nP7\nWIDTH 2\nHEIGHT 1\nDEPTH 4\nMAXVAL 2,55\nTUPLTYPE RGB_ALPHA\nENDHDR\nabcdefgh~",
-    );
+    )
 }
 
 // A byte that is no digit, at each place of a number; after more than 64 bits.
-fn letters() {
+fn letters(rt: &impl Print) -> io::Result<()> {
     each(
+        rt,
         b"width a2\nP7\nWIDTH a2\nHEIGHT 1\nDEPTH 4\nMAXVAL 255\nTUPLTYPE RGB_ALPHA\nENDHDR\nabcdefgh~\
         width 2a\nP7\nWIDTH 2a\nHEIGHT 1\nDEPTH 4\nMAXVAL 255\nTUPLTYPE RGB_ALPHA\nENDHDR\nabcdefgh~\
         height 0a1\nP7\nWIDTH 2\nHEIGHT 0a1\nDEPTH 4\nMAXVAL 255\nTUPLTYPE RGB_ALPHA\nENDHDR\nabcdefgh~\
@@ -49,12 +52,13 @@ fn letters() {
         a hundred digits and a letter\nP7\n\
         WIDTH \
         0000000000000000000000000000000000000000000000000000000000000000000000000000000000000000000000000002x\nHEIGHT 1\nDEPTH 4\nMAXVAL 255\nTUPLTYPE RGB_ALPHA\nENDHDR\nabcdefgh~",
-    );
+    )
 }
 
 // A line left out.
-fn missing_line() {
+fn missing_line(rt: &impl Print) -> io::Result<()> {
     each(
+        rt,
         b"WIDTH left out\nP7\nHEIGHT 1\nDEPTH 4\nMAXVAL 255\nTUPLTYPE RGB_ALPHA\nENDHDR\nabcdefgh~\
         HEIGHT left out\nP7\nWIDTH 2\nDEPTH 4\nMAXVAL 255\nTUPLTYPE RGB_ALPHA\nENDHDR\nabcdefgh~\
         DEPTH left out\nP7\nWIDTH 2\nHEIGHT 1\nMAXVAL 255\nTUPLTYPE RGB_ALPHA\nENDHDR\nabcdefgh~\
@@ -63,12 +67,13 @@ fn missing_line() {
         all but WIDTH left out\nP7\nWIDTH 2\nENDHDR\nabcdefgh~\
         WIDTH in a comment\nP7\n#WIDTH 2\nHEIGHT 1\nDEPTH 4\nMAXVAL 255\nTUPLTYPE RGB_ALPHA\nENDHDR\nabcdefgh~\
         HEIGHT in the comment before it\nP7\nWIDTH 2\n# c \rHEIGHT 1\nDEPTH 4\nMAXVAL 255\nTUPLTYPE RGB_ALPHA\nENDHDR\nabcdefgh~",
-    );
+    )
 }
 
 // A line given twice, with the same number and with another.
-fn twice() {
+fn twice(rt: &impl Print) -> io::Result<()> {
     each(
+        rt,
         b"WIDTH twice\nP7\nWIDTH 2\nWIDTH 2\nHEIGHT 1\nDEPTH 4\nMAXVAL 255\nTUPLTYPE RGB_ALPHA\nENDHDR\nabcdefgh~\
         HEIGHT twice\nP7\nWIDTH 2\nHEIGHT 1\nHEIGHT 1\nDEPTH 4\nMAXVAL 255\nTUPLTYPE RGB_ALPHA\nENDHDR\nabcdefgh~\
         DEPTH twice\nP7\nWIDTH 2\nHEIGHT 1\nDEPTH 4\nDEPTH 4\nMAXVAL 255\nTUPLTYPE RGB_ALPHA\nENDHDR\nabcdefgh~\
@@ -83,12 +88,13 @@ fn twice() {
         WIDTH 0 and 2\nP7\nWIDTH 0\nWIDTH 2\nHEIGHT 1\nDEPTH 4\nMAXVAL 255\nTUPLTYPE RGB_ALPHA\nENDHDR\nabcdefgh~\
         DEPTH 0 twice\nP7\nWIDTH 2\nHEIGHT 1\nDEPTH 0\nDEPTH 0\nMAXVAL 255\nTUPLTYPE RGB_ALPHA\nENDHDR\nabcdefgh~\
         HEIGHT 4294967295 and 1\nP7\nHEIGHT 4294967295\nWIDTH 2\nHEIGHT 1\nDEPTH 4\nMAXVAL 255\nTUPLTYPE RGB_ALPHA\nENDHDR\nabcdefgh~",
-    );
+    )
 }
 
 // A # that begins no line; a line of another word, at each place.
-fn other_lines() {
+fn other_lines(rt: &impl Print) -> io::Result<()> {
     each(
+        rt,
         b"blank before #\nP7\n # c\nWIDTH 2\nHEIGHT 1\nDEPTH 4\nMAXVAL 255\nTUPLTYPE RGB_ALPHA\nENDHDR\nabcdefgh~\
         byte 9 before #\nP7\nWIDTH 2\nHEIGHT 1\n\t# c\nDEPTH 4\nMAXVAL 255\nTUPLTYPE RGB_ALPHA\nENDHDR\nabcdefgh~\
         byte 13 before #\nP7\nWIDTH 2\nHEIGHT 1\nDEPTH 4\nMAXVAL 255\nTUPLTYPE RGB_ALPHA\n\r#\nENDHDR\nabcdefgh~\
@@ -105,5 +111,5 @@ fn other_lines() {
         GAMMA before ENDHDR\nP7\nWIDTH 2\nHEIGHT 1\nDEPTH 4\nMAXVAL 255\nTUPLTYPE RGB_ALPHA\nGAMMA 1\nENDHDR\nabcdefgh~\
         byte 255 after HEIGHT\nP7\nWIDTH 2\nHEIGHT 1\n\xff\nDEPTH 4\nMAXVAL 255\nTUPLTYPE RGB_ALPHA\nENDHDR\nabcdefgh~\
         2 1 before ENDHDR\nP7\nWIDTH 2\nHEIGHT 1\nDEPTH 4\nMAXVAL 255\nTUPLTYPE RGB_ALPHA\n2 1\nENDHDR\nabcdefgh~",
-    );
+    )
 }

@@ -8,7 +8,8 @@ use pam_header::{PamHeader, pam_header};
 use pam_parts::{head_of, tail_of};
 use pam_reading::{pam_pixels, pam_size};
 use pam_text::{Class, run_of};
-use pixels::{Dimensions, Sized};
+use pixels::{Dimensions, Refusal, Sized};
+use std::io;
 
 mod accepted;
 mod edges;
@@ -18,93 +19,83 @@ mod unsupported;
 mod words;
 mod written;
 
-fn main() {
-    accepted::trials();
-    edges::trials();
-    words::trials();
-    lines::trials();
-    unsupported::trials();
-    sizes::trials();
-    written::trials();
+fn main(rt: HostRuntime) -> io::Result<()> {
+    accepted::trials(&rt)?;
+    edges::trials(&rt)?;
+    words::trials(&rt)?;
+    lines::trials(&rt)?;
+    unsupported::trials(&rt)?;
+    sizes::trials(&rt)?;
+    written::trials(&rt)
 }
 
 // Runs each trial of a list. A tilde ends a trial; no input has one.
-pub(crate) fn each(list: &[u8]) {
+pub(crate) fn each(rt: &impl Print, list: &[u8]) -> io::Result<()> {
     let mut from = 0usize;
-    let mut i = 0usize;
-    while i < list.len() {
+    for i in 0..list.len() {
         if list[i] == b'~' {
-            trial(&list[from..i]);
+            trial(rt, &list[from..i])?;
             from = i + 1;
         }
-        i += 1;
     }
+    Ok(())
 }
 
 // What is asked is the first line of the text, and the input what follows it.
-fn trial(text: &[u8]) {
+fn trial(rt: &impl Print, text: &[u8]) -> io::Result<()> {
     let name = run_of(Class::Inside, text);
     let input = tail_of(tail_of(text, name), 1);
-    say(head_of(text, name));
-    say(b": ");
-    answers(input);
+    rt.write_all(head_of(text, name))?;
+    print!(rt; ": ")?;
+    answers(rt, input)
 }
 
 // The answers to the header and to the whole.
-pub(crate) fn answers(input: &[u8]) {
-    header(pam_header(input));
-    say(b" | ");
-    whole(pam_size(input));
-    hex(pam_pixels(input));
-    say(b"\n");
+pub(crate) fn answers(rt: &impl Print, input: &[u8]) -> io::Result<()> {
+    header(rt, pam_header(input))?;
+    print!(rt; " | ")?;
+    whole(rt, pam_size(input))?;
+    hex(rt, pam_pixels(input))?;
+    println!(rt;)
 }
 
 // ---- writing
 
-fn header(answer: PamHeader) {
+fn header(rt: &impl Print, answer: PamHeader) -> io::Result<()> {
     match answer {
         PamHeader::Picture { size, start } => {
-            sides(size);
-            say(b" at ");
-            number(start as u64);
+            sides(rt, size)?;
+            print!(rt; " at {start}")
         }
-        PamHeader::Refused(why) => number(why.number() as u64),
-        PamHeader::Unfinished => say(b"11 unfinished"),
+        PamHeader::Refused(why) => number(rt, why),
+        PamHeader::Unfinished => print!(rt; "11 unfinished"),
     }
 }
 
-fn whole(answer: Sized) {
+fn whole(rt: &impl Print, answer: Sized) -> io::Result<()> {
     match answer {
         Sized::Size(size) => {
-            sides(size);
-            say(b", ");
+            sides(rt, size)?;
+            print!(rt; ", ")
         }
-        Sized::Refused(why) => number(why.number() as u64),
+        Sized::Refused(why) => number(rt, why),
     }
 }
 
-pub(crate) fn sides(size: Dimensions) {
-    number(size.width as u64);
-    say(b" by ");
-    number(size.height as u64);
+pub(crate) fn sides(rt: &impl Print, size: Dimensions) -> io::Result<()> {
+    let width = size.width;
+    let height = size.height;
+    print!(rt; "{width} by {height}")
 }
 
-pub(crate) fn number(n: u64) {
-    io::print_decimal(1, n);
+pub(crate) fn number(rt: &impl Print, why: Refusal) -> io::Result<()> {
+    let number = why.number();
+    print!(rt; "{number}")
 }
 
-pub(crate) fn hex(bytes: &[u8]) {
-    let mut i = 0usize;
-    while i < bytes.len() {
-        io::print_hex(1, wide(bytes[i]), 2);
-        i += 1;
+pub(crate) fn hex(rt: &impl Print, bytes: &[u8]) -> io::Result<()> {
+    for byte in bytes {
+        print!(rt; "{byte:02x}")?;
     }
-}
-
-fn wide(b: u8) -> u64 {
-    b as u64
-}
-
-pub(crate) fn say(text: &[u8]) {
-    io::write_all(1, text);
+    Ok(())
 }

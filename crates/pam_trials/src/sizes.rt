@@ -1,15 +1,17 @@
 // 1 by a side, an input that deserves several numbers, and 3 by the pixels.
 use crate::each;
+use std::io;
 
-pub(crate) fn trials() {
-    sides();
-    several();
-    lengths();
+pub(crate) fn trials(rt: &impl Print) -> io::Result<()> {
+    sides(rt)?;
+    several(rt)?;
+    lengths(rt)
 }
 
 // 1 by a side. Where the low bits of a number are a small side, the pixels are right for that one.
-fn sides() {
+fn sides(rt: &impl Print) -> io::Result<()> {
     each(
+        rt,
         b"width 0\nP7\nWIDTH 0\nHEIGHT 1\nDEPTH 4\nMAXVAL 255\nTUPLTYPE RGB_ALPHA\nENDHDR\n~\
         width 00000\nP7\nWIDTH 00000\nHEIGHT 1\nDEPTH 4\nMAXVAL 255\nTUPLTYPE RGB_ALPHA\nENDHDR\n~\
         width 16385\nP7\nWIDTH 16385\nHEIGHT 1\nDEPTH 4\nMAXVAL 255\nTUPLTYPE RGB_ALPHA\nENDHDR\nabcdefgh~\
@@ -39,12 +41,13 @@ fn sides() {
         width of a hundred zeros\nP7\n\
         WIDTH \
         0000000000000000000000000000000000000000000000000000000000000000000000000000000000000000000000000000\nHEIGHT 1\nDEPTH 4\nMAXVAL 255\nTUPLTYPE RGB_ALPHA\nENDHDR\n~",
-    );
+    )
 }
 
 // An input that deserves several numbers: 11 is ahead of 12, 12 of 1, 1 of 3.
-fn several() {
+fn several(rt: &impl Print) -> io::Result<()> {
     each(
+        rt,
         b"11 and 12: depth 3, GAMMA after it\nP7\nWIDTH 2\nHEIGHT 1\nDEPTH 3\nGAMMA 1\nMAXVAL 255\nTUPLTYPE RGB_ALPHA\nENDHDR\nabcdefgh~\
         11 and 12: no type, no height\nP7\nWIDTH 2\nDEPTH 4\nMAXVAL 255\nENDHDR\nabcdefgh~\
         11 and 12: maximum 0, ENDHDR X\nP7\nWIDTH 2\nHEIGHT 1\nDEPTH 4\nMAXVAL 0\nTUPLTYPE RGB_ALPHA\nENDHDR X\nabcdefgh~\
@@ -63,12 +66,13 @@ fn several() {
         1 and 3: height 16385, no pixels\nP7\nWIDTH 2\nHEIGHT 16385\nDEPTH 4\nMAXVAL 255\nTUPLTYPE RGB_ALPHA\nENDHDR\n~\
         11, 12, 1 and 3\nP7\nWIDTH 0\nHEIGHT 1\nDEPTH 3\nMAXVAL\nTUPLTYPE RGB_ALPHA\nENDHDR\nabc~\
         12, 1 and 3\nP7\nWIDTH 0\nHEIGHT 1\nDEPTH 3\nMAXVAL 255\nTUPLTYPE RGB_ALPHA\nENDHDR\nabc~",
-    );
+    )
 }
 
 // 3: the header is read, and the pixels are not as many.
-fn lengths() {
+fn lengths(rt: &impl Print) -> io::Result<()> {
     each(
+        rt,
         b"one byte missing\nP7\nWIDTH 2\nHEIGHT 1\nDEPTH 4\nMAXVAL 255\nTUPLTYPE RGB_ALPHA\nENDHDR\nabcdefg~\
         one byte too many\nP7\nWIDTH 2\nHEIGHT 1\nDEPTH 4\nMAXVAL 255\nTUPLTYPE RGB_ALPHA\nENDHDR\nabcdefghi~\
         byte 10 too many\nP7\nWIDTH 2\nHEIGHT 1\nDEPTH 4\nMAXVAL 255\nTUPLTYPE RGB_ALPHA\nENDHDR\nabcdefgh\n~\
@@ -80,5 +84,5 @@ fn lengths() {
         comment after ENDHDR\nP7\nWIDTH 2\nHEIGHT 1\nDEPTH 4\nMAXVAL 255\nTUPLTYPE RGB_ALPHA\nENDHDR\n# c\nabcdefgh~\
         ENDHDR twice\nP7\nWIDTH 2\nHEIGHT 1\nDEPTH 4\nMAXVAL 255\nTUPLTYPE RGB_ALPHA\nENDHDR\nENDHDR\nabcdefgh~\
         2 by 2, one row\nP7\nWIDTH 2\nHEIGHT 2\nDEPTH 4\nMAXVAL 255\nTUPLTYPE RGB_ALPHA\nENDHDR\nabcdefgh~",
-    );
+    )
 }

@@ -1,15 +1,17 @@
 // 12: another depth, maximum or tuple type.
 use crate::each;
+use std::io;
 
-pub(crate) fn trials() {
-    numbers();
-    types();
-    type_lines();
+pub(crate) fn trials(rt: &impl Print) -> io::Result<()> {
+    numbers(rt)?;
+    types(rt)?;
+    type_lines(rt)
 }
 
 // Another depth, another maximum.
-fn numbers() {
+fn numbers(rt: &impl Print) -> io::Result<()> {
     each(
+        rt,
         b"depth 3\nP7\nWIDTH 2\nHEIGHT 1\nDEPTH 3\nMAXVAL 255\nTUPLTYPE RGB_ALPHA\nENDHDR\nabcdefgh~\
         depth 5\nP7\nWIDTH 2\nHEIGHT 1\nDEPTH 5\nMAXVAL 255\nTUPLTYPE RGB_ALPHA\nENDHDR\nabcdefgh~\
         depth 0\nP7\nWIDTH 2\nHEIGHT 1\nDEPTH 0\nMAXVAL 255\nTUPLTYPE RGB_ALPHA\nENDHDR\nabcdefgh~\
@@ -34,12 +36,13 @@ fn numbers() {
         maximum 4294967295\nP7\nWIDTH 2\nHEIGHT 1\nDEPTH 4\nMAXVAL 4294967295\nTUPLTYPE RGB_ALPHA\nENDHDR\nabcdefgh~\
         maximum 4294967551\nP7\nWIDTH 2\nHEIGHT 1\nDEPTH 4\nMAXVAL 4294967551\nTUPLTYPE RGB_ALPHA\nENDHDR\nabcdefgh~\
         maximum 18446744073709551871\nP7\nWIDTH 2\nHEIGHT 1\nDEPTH 4\nMAXVAL 18446744073709551871\nTUPLTYPE RGB_ALPHA\nENDHDR\nabcdefgh~",
-    );
+    )
 }
 
 // No tuple type, another, or one of several words.
-fn types() {
+fn types(rt: &impl Print) -> io::Result<()> {
     each(
+        rt,
         b"no type\nP7\nWIDTH 2\nHEIGHT 1\nDEPTH 4\nMAXVAL 255\nENDHDR\nabcdefgh~\
         type in a comment\nP7\nWIDTH 2\nHEIGHT 1\nDEPTH 4\nMAXVAL 255\n#TUPLTYPE RGB_ALPHA\nENDHDR\nabcdefgh~\
         type RGB\nP7\nWIDTH 2\nHEIGHT 1\nDEPTH 4\nMAXVAL 255\nTUPLTYPE RGB\nENDHDR\nabcdefgh~\
@@ -57,12 +60,13 @@ fn types() {
         type RGB _ALPHA\nP7\nWIDTH 2\nHEIGHT 1\nDEPTH 4\nMAXVAL 255\nTUPLTYPE RGB _ALPHA\nENDHDR\nabcdefgh~\
         type RGB_ALPHA # c\nP7\nWIDTH 2\nHEIGHT 1\nDEPTH 4\nMAXVAL 255\nTUPLTYPE RGB_ALPHA # c\nENDHDR\nabcdefgh~\
         type #\nP7\nWIDTH 2\nHEIGHT 1\nDEPTH 4\nMAXVAL 255\nTUPLTYPE #\nENDHDR\nabcdefgh~",
-    );
+    )
 }
 
 // Several lines of a tuple type.
-fn type_lines() {
+fn type_lines(rt: &impl Print) -> io::Result<()> {
     each(
+        rt,
         b"RGB_ALPHA twice\nP7\nWIDTH 2\nHEIGHT 1\nDEPTH 4\nMAXVAL 255\nTUPLTYPE RGB_ALPHA\nTUPLTYPE RGB_ALPHA\nENDHDR\nabcdefgh~\
         RGB_ALPHA three times\nP7\nWIDTH 2\nHEIGHT 1\nDEPTH 4\nMAXVAL 255\nTUPLTYPE RGB_ALPHA\nTUPLTYPE RGB_ALPHA\nTUPLTYPE RGB_ALPHA\nENDHDR\nabcdefgh~\
         RGB_ALPHA first and last\nP7\nTUPLTYPE RGB_ALPHA\nWIDTH 2\nHEIGHT 1\nDEPTH 4\nMAXVAL 255\nTUPLTYPE RGB_ALPHA\nENDHDR\nabcdefgh~\
@@ -70,5 +74,5 @@ fn type_lines() {
         RGB_ALPHA and RGB\nP7\nWIDTH 2\nHEIGHT 1\nDEPTH 4\nMAXVAL 255\nTUPLTYPE RGB_ALPHA\nTUPLTYPE RGB\nENDHDR\nabcdefgh~\
         RGB and _ALPHA\nP7\nWIDTH 2\nHEIGHT 1\nDEPTH 4\nMAXVAL 255\nTUPLTYPE RGB\nTUPLTYPE _ALPHA\nENDHDR\nabcdefgh~\
         RGB_ and ALPHA\nP7\nWIDTH 2\nHEIGHT 1\nDEPTH 4\nMAXVAL 255\nTUPLTYPE RGB_\nTUPLTYPE ALPHA\nENDHDR\nabcdefgh~",
-    );
+    )
 }

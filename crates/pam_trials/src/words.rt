@@ -1,16 +1,18 @@
 // 11 by a line's words: keywords, blanks, a word too few or too many.
 use crate::each;
+use std::io;
 
-pub(crate) fn trials() {
-    keywords();
-    glued();
-    missing_word();
-    surplus_word();
+pub(crate) fn trials(rt: &impl Print) -> io::Result<()> {
+    keywords(rt)?;
+    glued(rt)?;
+    missing_word(rt)?;
+    surplus_word(rt)
 }
 
 // Keywords misspelt, cut off, in lower case.
-fn keywords() {
+fn keywords(rt: &impl Print) -> io::Result<()> {
     each(
+        rt,
         b"WIDHT\nP7\nWIDHT 2\nHEIGHT 1\nDEPTH 4\nMAXVAL 255\nTUPLTYPE RGB_ALPHA\nENDHDR\nabcdefgh~\
         HIEGHT\nP7\nWIDTH 2\nHIEGHT 1\nDEPTH 4\nMAXVAL 255\nTUPLTYPE RGB_ALPHA\nENDHDR\nabcdefgh~\
         DEPT\nP7\nWIDTH 2\nHEIGHT 1\nDEPT 4\nMAXVAL 255\nTUPLTYPE RGB_ALPHA\nENDHDR\nabcdefgh~\
@@ -27,12 +29,13 @@ fn keywords() {
         tupltype\nP7\nWIDTH 2\nHEIGHT 1\nDEPTH 4\nMAXVAL 255\ntupltype RGB_ALPHA\nENDHDR\nabcdefgh~\
         endhdr\nP7\nWIDTH 2\nHEIGHT 1\nDEPTH 4\nMAXVAL 255\nTUPLTYPE RGB_ALPHA\nendhdr\nabcdefgh~\
         Width\nP7\nWidth 2\nHEIGHT 1\nDEPTH 4\nMAXVAL 255\nTUPLTYPE RGB_ALPHA\nENDHDR\nabcdefgh~",
-    );
+    )
 }
 
 // No blank between the words; the bytes beside the blanks part none.
-fn glued() {
+fn glued(rt: &impl Print) -> io::Result<()> {
     each(
+        rt,
         b"WIDTH2\nP7\nWIDTH2\nHEIGHT 1\nDEPTH 4\nMAXVAL 255\nTUPLTYPE RGB_ALPHA\nENDHDR\nabcdefgh~\
         HEIGHT1\nP7\nWIDTH 2\nHEIGHT1\nDEPTH 4\nMAXVAL 255\nTUPLTYPE RGB_ALPHA\nENDHDR\nabcdefgh~\
         DEPTH4\nP7\nWIDTH 2\nHEIGHT 1\nDEPTH4\nMAXVAL 255\nTUPLTYPE RGB_ALPHA\nENDHDR\nabcdefgh~\
@@ -48,12 +51,13 @@ fn glued() {
         byte 160 for a blank\nP7\nWIDTH\xa02\nHEIGHT 1\nDEPTH 4\nMAXVAL 255\nTUPLTYPE RGB_ALPHA\nENDHDR\nabcdefgh~\
         byte 133 for a line end\nP7\nWIDTH 2\x85HEIGHT 1\nDEPTH 4\nMAXVAL 255\nTUPLTYPE RGB_ALPHA\nENDHDR\nabcdefgh~\
         a line of byte 0\nP7\nWIDTH 2\nHEIGHT 1\n\x00\nDEPTH 4\nMAXVAL 255\nTUPLTYPE RGB_ALPHA\nENDHDR\nabcdefgh~",
-    );
+    )
 }
 
 // A word left out.
-fn missing_word() {
+fn missing_word(rt: &impl Print) -> io::Result<()> {
     each(
+        rt,
         b"WIDTH and no number\nP7\nWIDTH\nHEIGHT 1\nDEPTH 4\nMAXVAL 255\nTUPLTYPE RGB_ALPHA\nENDHDR\nabcdefgh~\
         HEIGHT and a blank\nP7\nWIDTH 2\nHEIGHT \nDEPTH 4\nMAXVAL 255\nTUPLTYPE RGB_ALPHA\nENDHDR\nabcdefgh~\
         DEPTH and byte 9\nP7\nWIDTH 2\nHEIGHT 1\nDEPTH\t\nMAXVAL 255\nTUPLTYPE RGB_ALPHA\nENDHDR\nabcdefgh~\
@@ -63,12 +67,13 @@ fn missing_word() {
         a number and no keyword\nP7\n2\nHEIGHT 1\nDEPTH 4\nMAXVAL 255\nTUPLTYPE RGB_ALPHA\nENDHDR\nabcdefgh~\
         the number in the next line\nP7\nWIDTH\n2\nHEIGHT 1\nDEPTH 4\nMAXVAL 255\nTUPLTYPE RGB_ALPHA\nENDHDR\nabcdefgh~\
         a type and no keyword\nP7\nWIDTH 2\nHEIGHT 1\nDEPTH 4\nMAXVAL 255\nRGB_ALPHA\nENDHDR\nabcdefgh~",
-    );
+    )
 }
 
 // A word too many.
-fn surplus_word() {
+fn surplus_word(rt: &impl Print) -> io::Result<()> {
     each(
+        rt,
         b"WIDTH 2 2\nP7\nWIDTH 2 2\nHEIGHT 1\nDEPTH 4\nMAXVAL 255\nTUPLTYPE RGB_ALPHA\nENDHDR\nabcdefgh~\
         HEIGHT 1 X\nP7\nWIDTH 2\nHEIGHT 1 X\nDEPTH 4\nMAXVAL 255\nTUPLTYPE RGB_ALPHA\nENDHDR\nabcdefgh~\
         DEPTH 4 4\nP7\nWIDTH 2\nHEIGHT 1\nDEPTH 4 4\nMAXVAL 255\nTUPLTYPE RGB_ALPHA\nENDHDR\nabcdefgh~\
@@ -80,5 +85,5 @@ fn surplus_word() {
         WIDTH and HEIGHT in one line\nP7\nWIDTH 2 HEIGHT 1\nDEPTH 4\nMAXVAL 255\nTUPLTYPE RGB_ALPHA\nENDHDR\nabcdefgh~\
         2 WIDTH\nP7\n2 WIDTH\nHEIGHT 1\nDEPTH 4\nMAXVAL 255\nTUPLTYPE RGB_ALPHA\nENDHDR\nabcdefgh~\
         WIDTH WIDTH 2\nP7\nWIDTH WIDTH 2\nHEIGHT 1\nDEPTH 4\nMAXVAL 255\nTUPLTYPE RGB_ALPHA\nENDHDR\nabcdefgh~",
-    );
+    )
 }

@@ -1,97 +1,98 @@
 // The writer: how long a file is, what is written and how it reads back, and the numbers 1, 3 and 4.
-use crate::{answers, hex, number, say, sides};
+use crate::{answers, hex, number, sides};
 use pam_heading::PamLength;
 use pam_writing::{pam_length, pam_write};
 use pixels::{Checked, Dimensions};
+use std::io;
 
-pub(crate) fn trials() {
-    lengths();
-    pictures();
-    refusals();
+pub(crate) fn trials(rt: &impl Print) -> io::Result<()> {
+    lengths(rt)?;
+    pictures(rt)?;
+    refusals(rt)
 }
 
 // A side of a digit more, the largest picture, and 1.
-fn lengths() {
-    length(9, 10);
-    length(99, 100);
-    length(16384, 16384);
-    length(0, 1);
-    length(1, 16385);
+fn lengths(rt: &impl Print) -> io::Result<()> {
+    length(rt, 9, 10)?;
+    length(rt, 99, 100)?;
+    length(rt, 16384, 16384)?;
+    length(rt, 0, 1)?;
+    length(rt, 1, 16385)
 }
 
-fn pictures() {
-    written(2, 1, b"abcdefgh", &mut [7; 73]);
-    written(1, 2, b"\n#\x00\xff~P7\n", &mut [7; 73]);
+fn pictures(rt: &impl Print) -> io::Result<()> {
+    written(rt, 2, 1, b"abcdefgh", &mut [7; 73])?;
+    written(rt, 1, 2, b"\n#\x00\xff~P7\n", &mut [7; 73])?;
     written(
+        rt,
         10,
         1,
         b"abcdefghijklmnopqrstuvwxyzABCDEFGHIJKLMN",
         &mut [7; 106],
-    );
+    )
 }
 
-fn refusals() {
+fn refusals(rt: &impl Print) -> io::Result<()> {
     // 1
-    written(0, 1, b"", &mut [7; 65]);
-    written(1, 16385, b"abcd", &mut [7; 8]);
+    written(rt, 0, 1, b"", &mut [7; 65])?;
+    written(rt, 1, 16385, b"abcd", &mut [7; 8])?;
     // 3
-    written(2, 1, b"abcdefg", &mut [7; 73]);
-    written(2, 1, b"abcdefghi", &mut [7; 74]);
+    written(rt, 2, 1, b"abcdefg", &mut [7; 73])?;
+    written(rt, 2, 1, b"abcdefghi", &mut [7; 74])?;
     // 4
-    written(2, 1, b"abcdefgh", &mut [7; 72]);
-    written(2, 1, b"abcdefgh", &mut [7; 74]);
+    written(rt, 2, 1, b"abcdefgh", &mut [7; 72])?;
+    written(rt, 2, 1, b"abcdefgh", &mut [7; 74])?;
     // 1 ahead of 3, 3 ahead of 4
-    written(0, 1, b"abcd", &mut [7; 1]);
-    written(2, 1, b"abcd", &mut [7; 1]);
+    written(rt, 0, 1, b"abcd", &mut [7; 1])?;
+    written(rt, 2, 1, b"abcd", &mut [7; 1])
 }
 
-fn length(width: u32, height: u32) {
+fn length(rt: &impl Print, width: u32, height: u32) -> io::Result<()> {
     let size = Dimensions { width, height };
-    say(b"length of ");
-    sides(size);
-    say(b": ");
-    length_line(pam_length(size));
+    print!(rt; "length of ")?;
+    sides(rt, size)?;
+    print!(rt; ": ")?;
+    length_line(rt, pam_length(size))
 }
 
-fn length_line(answer: PamLength) {
+fn length_line(rt: &impl Print, answer: PamLength) -> io::Result<()> {
     match answer {
-        PamLength::Bytes(n) => {
-            number(n as u64);
-            say(b" bytes\n");
-        }
+        PamLength::Bytes(n) => println!(rt; "{n} bytes"),
         PamLength::Refused(why) => {
-            number(why.number() as u64);
-            say(b"\n");
+            number(rt, why)?;
+            println!(rt;)
         }
     }
 }
 
 // The number, the output byte by byte, and what the reader says of it. An output that was refused is as it was.
-fn written(width: u32, height: u32, pixels: &[u8], out: &mut [u8]) {
+fn written(
+    rt: &impl Print,
+    width: u32,
+    height: u32,
+    pixels: &[u8],
+    out: &mut [u8],
+) -> io::Result<()> {
     let size = Dimensions { width, height };
-    asked(size, pixels.len(), out.len());
-    told(pam_write(size, pixels, out));
-    hex(out);
-    say(b" | ");
-    answers(out);
+    asked(rt, size, pixels.len(), out.len())?;
+    told(rt, pam_write(size, pixels, out))?;
+    hex(rt, out)?;
+    print!(rt; " | ")?;
+    answers(rt, out)
 }
 
-fn asked(size: Dimensions, bytes: usize, room: usize) {
-    say(b"write ");
-    sides(size);
-    say(b" of ");
-    number(bytes as u64);
-    say(b" bytes into ");
-    number(room as u64);
-    say(b": ");
+fn asked(rt: &impl Print, size: Dimensions, bytes: usize, room: usize) -> io::Result<()> {
+    print!(rt; "write ")?;
+    sides(rt, size)?;
+    print!(rt; " of {bytes} bytes into {room}: ")
 }
 
-fn told(answer: Checked) {
+fn told(rt: &impl Print, answer: Checked) -> io::Result<()> {
     match answer {
-        Checked::Fit => say(b"0 "),
+        Checked::Fit => print!(rt; "0 "),
         Checked::Refused(why) => {
-            number(why.number() as u64);
-            say(b" ");
+            number(rt, why)?;
+            print!(rt; " ")
         }
     }
 }
