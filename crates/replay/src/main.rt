@@ -2,13 +2,16 @@
 // there are and how many differ.
 #![tactic(auto)]
 
+ghost use Rattle.std.specs.Prelude.{◌≤◌, length, IfOk};
+
 use job::{Job, Offered, Taken};
 use job_start::{Started, start};
-use libc::STDOUT_FILENO;
 use pixels::{Dimensions, Flagged, PIXEL_LANES, Rect, Refusal, Sized};
 use pixels_alpha::apply_alpha_plane;
 use pixels_crop::crop;
 use pixels_layout::PixelLayout;
+use std::io;
+use std::io::Read;
 
 mod picture;
 mod text;
@@ -369,12 +372,29 @@ fn replay(list: &[u8]) -> Count {
     }
 }
 
-fn main() {
-    let mut list = io::large_buffer();
-    let n = io::read_full(0, &mut list);
+// Reads until the bytes are full or the input ends; how many there are.
+fn read_full(input: &mut impl Read, bytes: &mut [u8]) -> io::Result<usize>
+    ensures { IfOk result (λ n. n ≤ length bytes.new) }
+{
+    let mut done = 0usize;
+    for _ in 0..u64::MAX {
+        if done == bytes.len() {
+            break;
+        }
+        let n = input.read(&mut bytes[done..])?;
+        if n == 0 {
+            break;
+        }
+        done += n;
+    }
+    Ok(done)
+}
+
+fn main(rt: HostRuntime) -> io::Result<()> {
+    let mut list = [0u8; 65536];
+    let n = read_full(&mut rt.stdin(), &mut list)?;
     let count = replay(&list[..n]);
-    io::print_decimal(STDOUT_FILENO, count.entries as u64);
-    io::write_all(STDOUT_FILENO, b" entries, ");
-    io::print_decimal(STDOUT_FILENO, count.differ as u64);
-    io::write_all(STDOUT_FILENO, b" differ\n");
+    let entries = count.entries;
+    let differ = count.differ;
+    println!(rt; "{entries} entries, {differ} differ")
 }
