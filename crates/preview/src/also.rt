@@ -1,19 +1,21 @@
 // The options' words; and the previews that --also asks for beside the main one: their files, and one pass over the input for the group of all.
-ghost use Rattle.io.specs.Counts.{IsPrefixLen};
+ghost use Rattle.std.specs.Prelude.{◌≤◌, length};
 
 use crate::{
-    Form, Out, close, is_word, open_to, picture, preview_size, read_whole, say, say_refusal,
-    say_too_short, say_usage, standard_output, write_to,
+    Form, Out, TEXT, argument_count, argument_text, close, is_word, open_to, picture, preview_size,
+    read_whole, say, say_error, say_refusal, say_too_short, say_usage, standard_output, write_to,
 };
 use group::offer_group;
 use group_rules::{GROUP_LIMIT, Group};
 use group_start::start_group;
 use group_take::{group_ready, take_group};
 use job_rules::{Plan, row_bytes};
-use libc::{STDERR_FILENO, STDIN_FILENO};
 use pam_parts::{head_of, tail_of};
 use pixels::{Checked, Dimensions, Rect, Sized};
 use preview_decimal::{NONE, number};
+use std::fs::File;
+use std::io::Write;
+use std::{array, io, str};
 
 // The work values of the most previews, each of the widest.
 const WORK: usize = GROUP_LIMIT * 131072;
@@ -27,18 +29,18 @@ pub struct Words {
     pub before: usize,
 }
 
-fn is_option(i: usize) -> bool {
-    if is_word(i, b"--also") {
+fn is_option(rt: &HostRuntime, i: usize) -> bool {
+    if is_word(rt, i, b"--also") {
         return true;
     }
-    is_word(i, b"--badge")
+    is_word(rt, i, b"--badge")
 }
 
-pub(crate) fn words_of() -> Words {
-    let count = os::arg_count();
+pub(crate) fn words_of(rt: &HostRuntime) -> Words {
+    let count = argument_count(rt);
     let mut i = 1usize;
     while i < count {
-        if is_option(i) {
+        if is_option(rt, i) {
             return Words { count, before: i };
         }
         i += 1;
@@ -50,7 +52,7 @@ pub(crate) fn words_of() -> Words {
 }
 
 // How many bytes there are up to the first such byte, itself counted; 0 where there is none.
-fn up_to(text: &[u8], byte: u8) -> usize {
+pub(crate) fn up_to(text: &[u8], byte: u8) -> usize {
     let mut i = 0usize;
     while i < text.len() {
         if text[i] == byte {
@@ -116,38 +118,36 @@ fn named_target(text: &[u8], word: usize) -> Target {
     target_of(head_of(text, end - 1), word)
 }
 
-fn say_no_target(text: &[u8]) {
-    say(b"preview: --also takes WIDTHxHEIGHT=FILE, and not '");
-    say(text);
-    say(b"'\n");
+fn say_no_target(rt: &HostRuntime, text: &[u8]) {
+    say(rt, b"preview: --also takes WIDTHxHEIGHT=FILE, and not '");
+    say(rt, text);
+    say(rt, b"'\n");
 }
 
 // Of argument `word`; where it is none, that is said.
-fn argument_target(word: usize) -> Target {
-    let mut text = io::buffer();
-    let n = os::arg(word, &mut text);
+fn argument_target(rt: &HostRuntime, word: usize) -> Target {
+    let mut text = [0u8; TEXT];
+    let n = argument_text(rt, word, &mut text);
     let target = named_target(&text[..n], word);
     if !target.right {
-        say_no_target(&text[..n]);
+        say_no_target(rt, &text[..n]);
     }
     target
 }
 
 // What --also, argument `option`, and the word after it ask for; what is wrong is said.
-fn read_target(option: usize, word: usize) -> Target {
-    if !is_word(option, b"--also") {
-        say_usage();
+fn read_target(rt: &HostRuntime, option: usize, word: usize) -> Target {
+    if !is_word(rt, option, b"--also") {
+        say_usage(rt);
         return no_target();
     }
-    argument_target(word)
+    argument_target(rt, word)
 }
 
-fn say_too_many(count: usize) {
-    say(b"preview: there are ");
-    io::print_decimal(STDERR_FILENO, count as u64);
-    say(b" previews to make: at most ");
-    io::print_decimal(STDERR_FILENO, GROUP_LIMIT as u64);
-    say(b" are made in one pass\n");
+fn say_too_many(rt: &HostRuntime, count: usize) {
+    let _ = eprintln!(rt;
+        "preview: there are {count} previews to make: at most {GROUP_LIMIT} are made in one pass"
+    );
 }
 
 // The previews that are asked for, the main one first, and the argument that names the badge's file; 0 where there is no badge. Not going where a word is wrong,
@@ -161,7 +161,7 @@ pub struct Asked {
 }
 
 // --badge and one word are all that follows the numbers.
-fn ask_badge(first: Asked, words: Words) -> Asked {
+fn ask_badge(rt: &HostRuntime, first: Asked, words: Words) -> Asked {
     let mut asked = first;
     if words.before < words.count {
         let left = words.count - words.before;
@@ -171,26 +171,26 @@ fn ask_badge(first: Asked, words: Words) -> Asked {
             return asked;
         }
     }
-    say_usage();
+    say_usage(rt);
     asked
 }
 
 // One --also after another.
-fn ask_also(first: Asked, words: Words) -> Asked {
+fn ask_also(rt: &HostRuntime, first: Asked, words: Words) -> Asked {
     let mut asked = first;
     let mut i = words.before;
     let mut k = 1usize;
     while i < words.count {
         let left = words.count - i;
         if GROUP_LIMIT <= k {
-            say_too_many(k + left / 2);
+            say_too_many(rt, k + left / 2);
             return asked;
         }
         if left == 1 {
-            say_usage();
+            say_usage(rt);
             return asked;
         }
-        let target = read_target(i, i + 1);
+        let target = read_target(rt, i, i + 1);
         if !target.right {
             return asked;
         }
@@ -204,7 +204,7 @@ fn ask_also(first: Asked, words: Words) -> Asked {
 }
 
 // Those of all words; the main one has these sides.
-pub(crate) fn ask(words: Words, sides: Dimensions) -> Asked {
+pub(crate) fn ask(rt: &HostRuntime, words: Words, sides: Dimensions) -> Asked {
     let main = Target {
         right: true,
         sides,
@@ -216,10 +216,10 @@ pub(crate) fn ask(words: Words, sides: Dimensions) -> Asked {
         count: 1,
         targets: [main; GROUP_LIMIT],
     };
-    if is_word(words.before, b"--badge") {
-        return ask_badge(first, words);
+    if is_word(rt, words.before, b"--badge") {
+        return ask_badge(rt, first, words);
     }
-    ask_also(first, words)
+    ask_also(rt, first, words)
 }
 
 // ---- the files
@@ -230,46 +230,65 @@ fn file_of(text: &[u8]) -> &[u8] {
     tail_of(text, end)
 }
 
-pub(crate) fn say_failed(file: &[u8]) {
-    say(b"preview: ");
-    os::fail(file);
+pub(crate) fn say_failed(rt: &HostRuntime, file: &[u8], error: &io::Error) {
+    say(rt, b"preview: ");
+    say_error(rt, file, error);
 }
 
-// Makes the file that argument `word` names, or empties it. Where that fails, which is said, the descriptor is below 0.
-fn make_file(word: usize) -> Out {
-    let mut text = io::buffer();
-    let n = os::arg(word, &mut text);
+// A file's name as the system takes it.
+pub(crate) fn path_of(file: &[u8]) -> io::Result<&str> {
+    match str::from_utf8(file) {
+        Ok(path) => Ok(path),
+        Err(_) => Err(io::Error::from(io::ErrorKind::InvalidFilename)),
+    }
+}
+
+fn create_file(rt: &HostRuntime, file: &[u8]) -> io::Result<File> {
+    File::create(rt, path_of(file)?)
+}
+
+// Makes the file that argument `word` names, or empties it. Where that fails, which is said, there is none.
+fn make_file(rt: &HostRuntime, word: usize) -> Out {
+    let mut text = [0u8; TEXT];
+    let n = argument_text(rt, word, &mut text);
     let file = file_of(&text[..n]);
-    let fd = os::open_overwrite(file);
-    if fd < 0 {
-        say_failed(file);
+    match create_file(rt, file) {
+        Ok(made) => Out {
+            word,
+            file: Some(made),
+        },
+        Err(error) => {
+            say_failed(rt, file, &error);
+            Out { word, file: None }
+        }
     }
-    Out { word, fd }
 }
 
-// False where the file does not take all of it, which is said. Its name is read before that: reading an argument forgets the error of a write.
-pub(crate) fn write_file(to: Out, bytes: &[u8]) -> bool {
-    let mut text = io::buffer();
-    let n = os::arg(to.word, &mut text);
-    let going = io::write_all(to.fd, bytes);
-    if !going {
-        say_failed(file_of(&text[..n]));
+// False where the file does not take all of it, which is said.
+pub(crate) fn write_file(rt: &HostRuntime, word: usize, file: &File, bytes: &[u8]) -> bool {
+    let mut to = file;
+    match to.write_all(bytes) {
+        Ok(()) => true,
+        Err(error) => {
+            let mut text = [0u8; TEXT];
+            let n = argument_text(rt, word, &mut text);
+            say_failed(rt, file_of(&text[..n]), &error);
+            false
+        }
     }
-    going
 }
 
 // Where the previews go; not going where something stopped it.
-#[derive(Clone, Copy)]
+#[derive(Drop)]
 struct Outs {
     going: bool,
     outs: [Out; GROUP_LIMIT],
 }
 
-fn make_files(asked: Asked) -> Outs {
-    let first = standard_output();
+fn make_files(rt: &HostRuntime, asked: Asked) -> Outs {
     let mut files = Outs {
         going: false,
-        outs: [first; GROUP_LIMIT],
+        outs: array::from_fn(|_| standard_output()),
     };
     let mut k = 1usize;
     while k < GROUP_LIMIT {
@@ -278,8 +297,8 @@ fn make_files(asked: Asked) -> Outs {
             return files;
         }
         let target = asked.targets[k];
-        let to = make_file(target.word);
-        if to.fd < 0 {
+        let to = make_file(rt, target.word);
+        if to.file.is_none() {
             return files;
         }
         files.outs[k] = to;
@@ -290,16 +309,16 @@ fn make_files(asked: Asked) -> Outs {
 }
 
 // Writes the header of each preview, where the form has one; false where something stopped it.
-fn open_all(form: Form, group: Group, files: Outs) -> bool {
+fn open_all(rt: &HostRuntime, form: Form, group: Group, files: &Outs) -> bool {
     let mut k = 0usize;
     while k < GROUP_LIMIT {
         if k == group.count as usize {
             return true;
         }
-        let to = files.outs[k];
+        let to = &files.outs[k];
         let job = group.jobs[k];
         let target = job.plan.target;
-        if !open_to(form, to, target) {
+        if !open_to(rt, form, to, target) {
             return false;
         }
         k += 1;
@@ -317,34 +336,48 @@ struct GroupRun {
 }
 
 // Takes the next row of job k and writes it.
-fn take_one(group: Group, k: u32, to: Out, out: &mut [u8], work: &mut [u32]) -> GroupRun {
+fn take_one(
+    rt: &HostRuntime,
+    group: Group,
+    k: u32,
+    to: &Out,
+    out: &mut [u8],
+    work: &mut [u32],
+) -> GroupRun {
     let taken = take_group(group, k, out, work);
     let answer = taken.answer;
     let next = taken.group;
     match answer {
         Checked::Refused(why) => {
-            say_refusal(why);
+            say_refusal(rt, why);
             GroupRun {
                 group: next,
                 going: false,
             }
         }
         Checked::Fit => {
-            let going = write_to(to, out);
+            let going = write_to(rt, to, out);
             GroupRun { group: next, going }
         }
     }
 }
 
 // Takes and writes every row of job k that is ready.
-fn take_rows(first: GroupRun, k: u32, to: Out, out: &mut [u8], work: &mut [u32]) -> GroupRun {
+fn take_rows(
+    rt: &HostRuntime,
+    first: GroupRun,
+    k: u32,
+    to: &Out,
+    out: &mut [u8],
+    work: &mut [u32],
+) -> GroupRun {
     let mut run = first;
     let mut left = group_ready(run.group, k);
     while left > 0 {
         if !run.going {
             return run;
         }
-        run = take_one(run.group, k, to, out, work);
+        run = take_one(rt, run.group, k, to, out, work);
         left -= 1;
     }
     run
@@ -352,7 +385,7 @@ fn take_rows(first: GroupRun, k: u32, to: Out, out: &mut [u8], work: &mut [u32])
 
 // The n bytes of a row or of a picture, where the buffer has them; else none, which every call refuses.
 pub(crate) fn part_of(n: usize, buffer: &[u8]) -> usize
-    ensures { IsPrefixLen result buffer.now }
+    ensures { result ≤ length buffer.now }
 {
     if buffer.len() < n {
         return 0;
@@ -362,19 +395,26 @@ pub(crate) fn part_of(n: usize, buffer: &[u8]) -> usize
 
 // The same, in the part of the buffer that a row of the job takes.
 fn take_job(
+    rt: &HostRuntime,
     run: GroupRun,
     k: u32,
     plan: Plan,
-    to: Out,
+    to: &Out,
     out: &mut [u8],
     work: &mut [u32],
 ) -> GroupRun {
     let n = part_of(row_bytes(plan, plan.target.width), out);
-    take_rows(run, k, to, &mut out[..n], work)
+    take_rows(rt, run, k, to, &mut out[..n], work)
 }
 
 // Every row that is ready, of one job after another.
-fn take_all(first: GroupRun, files: Outs, out: &mut [u8], work: &mut [u32]) -> GroupRun {
+fn take_all(
+    rt: &HostRuntime,
+    first: GroupRun,
+    files: &Outs,
+    out: &mut [u8],
+    work: &mut [u32],
+) -> GroupRun {
     let mut run = first;
     let mut k = 0usize;
     while k < GROUP_LIMIT {
@@ -384,18 +424,18 @@ fn take_all(first: GroupRun, files: Outs, out: &mut [u8], work: &mut [u32]) -> G
             return run;
         }
         let job = group.jobs[k];
-        let to = files.outs[k];
-        run = take_job(run, place, job.plan, to, out, work);
+        let to = &files.outs[k];
+        run = take_job(rt, run, place, job.plan, to, out, work);
         k += 1;
     }
     run
 }
 
 // Reads a row and offers it.
-fn feed(group: Group, row: &mut [u8], work: &mut [u32]) -> GroupRun {
-    if !read_whole(STDIN_FILENO, row) {
+fn feed(rt: &HostRuntime, group: Group, row: &mut [u8], work: &mut [u32]) -> GroupRun {
+    if !read_whole(&mut rt.stdin(), row) {
         let first = group.jobs[0];
-        say_too_short(first.accepted);
+        say_too_short(rt, first.accepted);
         return GroupRun {
             group,
             going: false,
@@ -406,7 +446,7 @@ fn feed(group: Group, row: &mut [u8], work: &mut [u32]) -> GroupRun {
     let next = offered.group;
     match answer {
         Checked::Refused(why) => {
-            say_refusal(why);
+            say_refusal(rt, why);
             GroupRun {
                 group: next,
                 going: false,
@@ -420,16 +460,24 @@ fn feed(group: Group, row: &mut [u8], work: &mut [u32]) -> GroupRun {
 }
 
 // A row in, and the rows that it makes ready out.
-fn pass(group: Group, files: Outs, row: &mut [u8], out: &mut [u8], work: &mut [u32]) -> GroupRun {
-    let fed = feed(group, row, work);
-    take_all(fed, files, out, work)
+fn pass(
+    rt: &HostRuntime,
+    group: Group,
+    files: &Outs,
+    row: &mut [u8],
+    out: &mut [u8],
+    work: &mut [u32],
+) -> GroupRun {
+    let fed = feed(rt, group, row, work);
+    take_all(rt, fed, files, out, work)
 }
 
 // All of the source's rows, one after another; false where something stopped them.
 fn pass_all(
+    rt: &HostRuntime,
     fresh: Group,
     height: u32,
-    files: Outs,
+    files: &Outs,
     row: &mut [u8],
     out: &mut [u8],
     work: &mut [u32],
@@ -443,18 +491,33 @@ fn pass_all(
         if !run.going {
             return false;
         }
-        run = pass(run.group, files, row, out, work);
+        run = pass(rt, run.group, files, row, out, work);
         left -= 1;
     }
     run.going
 }
 
 // Runs a fresh group on the rows of standard input; false where something stopped it.
-fn run_group(group: Group, files: Outs, row: &mut [u8], out: &mut [u8], work: &mut [u32]) -> bool {
+fn run_group(
+    rt: &HostRuntime,
+    group: Group,
+    files: &Outs,
+    row: &mut [u8],
+    out: &mut [u8],
+    work: &mut [u32],
+) -> bool {
     let first = group.jobs[0];
     let plan = first.plan;
     let n = part_of(row_bytes(plan, plan.source.width), row);
-    pass_all(group, plan.source.height, files, &mut row[..n], out, work)
+    pass_all(
+        rt,
+        group,
+        plan.source.height,
+        files,
+        &mut row[..n],
+        out,
+        work,
+    )
 }
 
 // ---- the pictures
@@ -466,7 +529,7 @@ struct Plans {
     plans: [Plan; GROUP_LIMIT],
 }
 
-fn plan_all(source: Dimensions, crop: Rect, asked: Asked) -> Plans {
+fn plan_all(rt: &HostRuntime, source: Dimensions, crop: Rect, asked: Asked) -> Plans {
     let none = picture(source, crop, source);
     let mut all = Plans {
         going: false,
@@ -482,7 +545,7 @@ fn plan_all(source: Dimensions, crop: Rect, asked: Asked) -> Plans {
         let sized = preview_size(source, crop, target.sides);
         match sized {
             Sized::Refused(why) => {
-                say_refusal(why);
+                say_refusal(rt, why);
                 return all;
             }
             Sized::Size(size) => {
@@ -497,21 +560,28 @@ fn plan_all(source: Dimensions, crop: Rect, asked: Asked) -> Plans {
 }
 
 // Makes the files, and writes to them and to standard output: one row of the widest picture in, one out.
-fn run_all(form: Form, asked: Asked, group: Group, work: &mut [u32]) {
+fn run_all(rt: &HostRuntime, form: Form, asked: Asked, group: Group, work: &mut [u32]) {
     let mut row = [0u8; 65536];
     let mut out = [0u8; 65536];
-    let files = make_files(asked);
+    let files = make_files(rt, asked);
     if !files.going {
         return;
     }
-    if open_all(form, group, files) {
-        close(run_group(group, files, &mut row, &mut out, work));
+    if open_all(rt, form, group, &files) {
+        close(rt, run_group(rt, group, &files, &mut row, &mut out, work));
     }
 }
 
 // Starts the group. The files are made once all sizes have passed, so that a refused picture empties none.
-fn start_all(form: Form, source: Dimensions, crop: Rect, asked: Asked, work: &mut [u32]) {
-    let all = plan_all(source, crop, asked);
+fn start_all(
+    rt: &HostRuntime,
+    form: Form,
+    source: Dimensions,
+    crop: Rect,
+    asked: Asked,
+    work: &mut [u32],
+) {
+    let all = plan_all(rt, source, crop, asked);
     if !all.going {
         return;
     }
@@ -520,12 +590,12 @@ fn start_all(form: Form, source: Dimensions, crop: Rect, asked: Asked, work: &mu
     let answer = started.answer;
     let group = started.group;
     match answer {
-        Checked::Refused(why) => say_refusal(why),
-        Checked::Fit => run_all(form, asked, group, work),
+        Checked::Refused(why) => say_refusal(rt, why),
+        Checked::Fit => run_all(rt, form, asked, group, work),
     }
 }
 
-pub(crate) fn also(form: Form, source: Dimensions, crop: Rect, asked: Asked) {
+pub(crate) fn also(rt: &HostRuntime, form: Form, source: Dimensions, crop: Rect, asked: Asked) {
     let mut work = [0u32; WORK];
-    start_all(form, source, crop, asked, &mut work);
+    start_all(rt, form, source, crop, asked, &mut work);
 }
