@@ -1,5 +1,5 @@
 -- The part of the buffer that the header takes is lent.
-use Rattle.std.proofs.Common.{rules, length-take-le, ◌≤◌}
+use Rattle.std.proofs.Common.{rules, length-take-le}
 use Rattle.preview.proofs.Buffers.{header_fits}
 use Rattle.preview.proofs.header.write_header.Goals as goal
 
