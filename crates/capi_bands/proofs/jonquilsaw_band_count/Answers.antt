@@ -5,7 +5,6 @@ use borrow.Author.Tests.{lt-ltb}
 use Rattle.capi_words.proofs.Boundary.{misuse_told, misuse_kept}
 use Rattle.capi_bands.specs.Bands.{number_of_count, count_after_count}
 use Rattle.capi_bands.proofs.Bands.{count_no_record, count_refused, count_told}
-use borrow.Author.Rules.{rules}
 use Rattle.capi_bands.proofs.jonquilsaw_band_count.Goals as goal
 
 pub returns-then-count-lt1 : goal.returns-then-count-lt1
@@ -38,7 +37,7 @@ returns-then-not-check c =
     let if2 = c.if-not-check in
     let g = args in
     let both = count_refused g.«record».now g.count.now if1.false c.in-Job.job read-job.ensures c.in-Job.is _ check.ensures number2.result if2.true-raw
-        number2.ensures in
+    number2.ensures in
     record { number = both.0; count = both.1 }
 
 pub returns : goal.returns
@@ -52,5 +51,5 @@ returns c =
     let store = c.store in
     let g = args in
     let both = count_told g.«record».now g.count.now if1.false c.in-Job.job read-job.ensures c.in-Job.is _ check.ensures _ _ if2.false-raw
-        band-rows.ensures store.ensures in
+    band-rows.ensures store.ensures in
     record { number = both.0; count = both.1 }

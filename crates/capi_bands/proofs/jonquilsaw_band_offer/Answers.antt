@@ -5,7 +5,6 @@ use borrow.Author.Tests.{lt-ltb}
 use Rattle.capi_words.proofs.Boundary.{misuse_told, misuse_kept}
 use Rattle.capi_bands.specs.Bands.{number_of_band, record_after_band, work_after_band, count_after_band}
 use Rattle.capi_bands.proofs.Bands.{band_no_record, band_refused, band_accepted_lem}
-use borrow.Author.Rules.{rules}
 use Rattle.capi_bands.proofs.jonquilsaw_band_offer.Goals as goal
 
 pub returns-then-count-lt1 : goal.returns-then-count-lt1
@@ -32,13 +31,13 @@ pub returns-in-Refused : goal.returns-in-Refused
 returns-in-Refused c =
     let g = c.args in
     let both = band_refused g.«record».now g.rows.now g.work.now g.count.now c.if-count-lt1.false c.in-Job.job c.read_job-told.ensures c.in-Job.is
-        c.offer_band-answer.result c.offer_band-answer.ensures.number _ c.offer_band-answer.ensures.work c.in-Refused.why _ c.number-in-Refused.result c.in-Refused.is c.number-in-Refused.ensures in
+    c.offer_band-answer.result c.offer_band-answer.ensures.number _ c.offer_band-answer.ensures.work c.in-Refused.why _ c.number-in-Refused.result c.in-Refused.is c.number-in-Refused.ensures in
     record { number = both.0; «record» = both.1.0; work = both.1.1.0; count = both.1.1.1 }
 
 pub returns-in-Accepted : goal.returns-in-Accepted
 returns-in-Accepted c =
     let g = c.args in
     let both = band_accepted_lem g.«record».now g.rows.now g.work.now g.count.now c.if-count-lt1.false c.in-Job.job c.read_job-told.ensures c.in-Job.is
-        c.offer_band-answer.result c.offer_band-answer.ensures.number _ c.offer_band-answer.ensures.work _ _ _ _ c.in-Accepted.is c.offer_band-answer.ensures.rows c.offer_band-answer.ensures.job
-        c.store_job.ensures c.store.ensures in
+    c.offer_band-answer.result c.offer_band-answer.ensures.number _ c.offer_band-answer.ensures.work _ _ _ _ c.in-Accepted.is c.offer_band-answer.ensures.rows c.offer_band-answer.ensures.job
+    c.store_job.ensures c.store.ensures in
     record { number = both.0; «record» = both.1.0; work = both.1.1.0; count = both.1.1.1 }

@@ -1,7 +1,6 @@
 -- The boundary's test, the record's words, then the library's answer: a refusal keeps everything, an accepting offer stores the group and how many rows. Assumes nothing.
 use lib.ListN.{length}
 use borrow.Author.Tests.{lt-ltb, not-true, not-false}
-use borrow.Author.Rules.{rules}
 use Rattle.capi_group.proofs.Calling.{offer_misused, offer_no_group, offer_refused, offer_accepted}
 use Rattle.capi_group.proofs.jonquilsaw_offer_group.Goals as goal
 

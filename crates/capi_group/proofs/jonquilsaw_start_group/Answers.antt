@@ -1,6 +1,5 @@
 -- The boundary's test, then the library's answer: a refusal keeps the words, a fresh group is stored. Assumes nothing.
 use borrow.Author.Tests.{not-true, not-false}
-use borrow.Author.Rules.{rules}
 use Rattle.capi_group.proofs.Calling.{start_misused, start_refused, start_fresh}
 use Rattle.capi_group.proofs.jonquilsaw_start_group.Goals as goal
 

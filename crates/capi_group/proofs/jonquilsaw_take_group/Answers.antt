@@ -1,6 +1,5 @@
 -- The record's words, then the library's answer: a refusal keeps everything, a row written stores the group. Assumes nothing.
 use borrow.Author.Tests.{not-true, not-false}
-use borrow.Author.Rules.{rules}
 use Rattle.capi_group.proofs.Calling.{take_no_group, take_refused, take_wrote}
 use Rattle.capi_group.proofs.jonquilsaw_take_group.Goals as goal
 

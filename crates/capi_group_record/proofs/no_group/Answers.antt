@@ -1,5 +1,4 @@
 -- The record of zeros in every place. Assumes nothing.
-use borrow.Author.Rules.{rules}
 use Rattle.capi_group_record.proofs.no_group.Goals as goal
 
 pub returns : goal.returns

@@ -1,5 +1,4 @@
 -- No group. Assumes nothing.
-use borrow.Author.Rules.{rules}
 use Rattle.capi_group_record.proofs.nothing.Goals as goal
 
 pub returns : goal.returns

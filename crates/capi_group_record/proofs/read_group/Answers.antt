@@ -2,7 +2,7 @@
 use Prim.Native.Nat.{◌-◌}
 use mathlib.Core.Path.{refl}
 use borrow.Author.Rules.{rules}
-use Rattle.capi_group_record.proofs.Groups.{GroupRead, group_first_lem, group_more, job_here, no_job_here, no_words, many_jobs, short_group_lem, job_not, group_read}
+use Rattle.capi_group_record.proofs.Groups.{group_first_lem, group_more, job_here, no_job_here, no_words, many_jobs, short_group_lem, job_not, group_read}
 use Rattle.capi_group_record.specs.GroupRecord.{count_word}
 use Rattle.capi_group_record.proofs.read_group.Goals as goal
 

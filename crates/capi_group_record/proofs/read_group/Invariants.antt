@@ -1,9 +1,6 @@
 -- A count beyond the limit or too few words tell nothing. The invariant: the jobs read so far are legal, and stand in their places; the first that is none ends it. Assumes nothing.
 use Prim.Native.Nat.{◌-◌}
-use mathlib.Core.Path.{refl}
-use borrow.Author.Rules.{rules}
-use Rattle.capi_group_record.proofs.Groups.{GroupRead, group_first_lem, group_more, job_here, no_job_here, no_words, many_jobs, short_group_lem, job_not, group_read}
-use Rattle.capi_group_record.specs.GroupRecord.{count_word}
+use Rattle.capi_group_record.proofs.Groups.{GroupRead}
 use Rattle.capi_group_record.proofs.read_group.Given as goal
 
 abbrev pub invariant-loop-i : goal.invariant-loop-i

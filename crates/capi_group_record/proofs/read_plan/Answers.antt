@@ -1,6 +1,5 @@
 -- The words of a fresh record, which tells the plan. Assumes nothing.
 use mathlib.Core.Path.{◌∙◌}
-use borrow.Author.Rules.{rules}
 use Rattle.capi_group_record.proofs.Groups.{plan_told}
 use Rattle.capi_group_record.proofs.read_plan.Goals as goal
 

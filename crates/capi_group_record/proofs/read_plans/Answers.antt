@@ -1,8 +1,7 @@
 -- Too few words tell nothing. The invariant: the plans read so far are legal, and stand in their places; the first that is none ends it. Assumes nothing.
 use Prim.Native.Nat.{◌-◌}
 use mathlib.Core.Path.{refl}
-use borrow.Author.Rules.{rules}
-use Rattle.capi_group_record.proofs.Groups.{PlansRead, plans_first, plans_more, plan_here, no_plan_here, few_words, few_lent, plan_not, plans_read}
+use Rattle.capi_group_record.proofs.Groups.{plans_first, plans_more, plan_here, no_plan_here, few_words, few_lent, plan_not, plans_read}
 use Rattle.capi_group_record.proofs.read_plans.Goals as goal
 
 pub returns-then-words-n : goal.returns-then-words-n

@@ -3,8 +3,7 @@ use Prim.Native.Nat.{◌-◌, ◌≤◌}
 use mathlib.Core.Path.{refl, ◌∙◌}
 use native.Mathlib.Omega.{arith}
 use lib.ListN.{length, length-set}
-use borrow.Author.Rules.{rules}
-use Rattle.capi_group_record.proofs.Groups.{Storing, begun_long, storing_first, storing_room, storing_more, too_many_stored, none_stored, group_stored}
+use Rattle.capi_group_record.proofs.Groups.{begun_long, storing_first, storing_room, storing_more, too_many_stored, none_stored, group_stored}
 use Rattle.capi_group_record.proofs.store_group.Goals as goal
 
 pub returns-then-n-gt-GROUP_LIMIT : goal.returns-then-n-gt-GROUP_LIMIT

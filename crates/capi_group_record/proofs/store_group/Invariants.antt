@@ -1,10 +1,6 @@
 -- Too few words are left as they were. The invariant: the count and the words of the first i jobs, then what stood there. Assumes nothing.
-use Prim.Native.Nat.{◌-◌, ◌≤◌}
-use mathlib.Core.Path.{refl, ◌∙◌}
-use native.Mathlib.Omega.{arith}
-use lib.ListN.{length, length-set}
-use borrow.Author.Rules.{rules}
-use Rattle.capi_group_record.proofs.Groups.{Storing, begun_long, storing_first, storing_room, storing_more, too_many_stored, none_stored, group_stored}
+use Prim.Native.Nat.{◌-◌}
+use Rattle.capi_group_record.proofs.Groups.{Storing}
 use Rattle.capi_group_record.proofs.store_group.Given as goal
 
 abbrev pub invariant-loop-i : goal.invariant-loop-i

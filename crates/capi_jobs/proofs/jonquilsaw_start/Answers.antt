@@ -3,7 +3,6 @@ use Rattle.capi_record.specs.Record.{words_plan}
 use Rattle.capi_words.proofs.Boundary.{misuse_told, misuse_kept}
 use Rattle.capi_jobs.specs.Jobs.{number_of_start, work_after_start, record_after_start}
 use Rattle.capi_jobs.proofs.Jobs.{start_refused, start_fresh}
-use borrow.Author.Rules.{rules}
 use Rattle.capi_jobs.proofs.jonquilsaw_start.Goals as goal
 
 pub returns-then-misused : goal.returns-then-misused

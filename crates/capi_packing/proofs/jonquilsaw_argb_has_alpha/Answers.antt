@@ -1,6 +1,5 @@
 -- The boundary's test of the lent word, then the flag stored in it. Assumes nothing.
 use Rattle.capi_packing.proofs.Packings.{flag_misused, flag_told}
-use borrow.Author.Rules.{rules}
 use Rattle.capi_packing.proofs.jonquilsaw_argb_has_alpha.Goals as goal
 
 pub returns-then-flag-lt1 : goal.returns-then-flag-lt1

@@ -1,6 +1,5 @@
 -- The boundary's test of the layout word, then the library's answer. Assumes nothing.
 use Rattle.capi_packing.proofs.Packings.{unpack_misused, unpack_told}
-use borrow.Author.Rules.{rules}
 use Rattle.capi_packing.proofs.jonquilsaw_unpack_pixels.Goals as goal
 
 pub returns-then-layout-ge-LAYOUTS : goal.returns-then-layout-ge-LAYOUTS

@@ -1,6 +1,5 @@
 -- The boundary's test of the lent word, then the flag stored in it. Assumes nothing.
 use Rattle.capi_pam_reading.proofs.PamReadings.{unfinished_misused, unfinished_told}
-use borrow.Author.Rules.{rules}
 use Rattle.capi_pam_reading.proofs.jonquilsaw_pam_unfinished.Goals as goal
 
 pub returns-then-flag-lt1 : goal.returns-then-flag-lt1

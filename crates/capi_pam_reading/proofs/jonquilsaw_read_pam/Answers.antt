@@ -1,6 +1,5 @@
 -- The boundary's test, then the library's answer: a refusal keeps the words, a size is stored. Assumes nothing.
 use Rattle.capi_pam_reading.proofs.PamReadings.{read_misused, read_refused, picture_read}
-use borrow.Author.Rules.{rules}
 use Rattle.capi_pam_reading.proofs.jonquilsaw_read_pam.Goals as goal
 
 pub returns-then-size-lt2 : goal.returns-then-size-lt2

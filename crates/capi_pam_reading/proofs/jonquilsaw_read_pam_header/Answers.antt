@@ -1,7 +1,6 @@
 -- The boundary's test, then the library's answer: a refusal keeps the words, what the header says is stored. Assumes nothing.
 use Rattle.pixels.specs.declared.Refusal.TheVariants.{PamMalformed}
 use Rattle.capi_pam_reading.proofs.PamReadings.{header_misused, header_refused, header_read}
-use borrow.Author.Rules.{rules}
 use Rattle.capi_pam_reading.proofs.jonquilsaw_read_pam_header.Goals as goal
 
 pub returns-then-answer-lt4 : goal.returns-then-answer-lt4

@@ -3,7 +3,6 @@ use native.Mathlib.Omega.{arith}
 use Rattle.pam_writing.proofs.Writing.{header_most}
 use Rattle.capi_pam_writing.specs.PamWriting.{bytes_after_pam_header_length}
 use Rattle.capi_pam_writing.proofs.PamWritings.{length_misused, length_refused, length_stored}
-use borrow.Author.Rules.{rules}
 use Rattle.capi_pam_writing.proofs.jonquilsaw_pam_header_length.Goals as goal
 
 pub returns-then-bytes-lt1 : goal.returns-then-bytes-lt1

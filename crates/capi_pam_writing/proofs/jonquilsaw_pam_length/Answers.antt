@@ -2,7 +2,6 @@
 use native.Mathlib.Omega.{arith}
 use Rattle.capi_pam_writing.specs.PamWriting.{bytes_after_pam_length}
 use Rattle.capi_pam_writing.proofs.PamWritings.{length_misused, length_refused, length_stored, file_most}
-use borrow.Author.Rules.{rules}
 use Rattle.capi_pam_writing.proofs.jonquilsaw_pam_length.Goals as goal
 
 pub returns-then-bytes-lt1 : goal.returns-then-bytes-lt1

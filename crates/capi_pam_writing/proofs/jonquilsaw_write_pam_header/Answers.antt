@@ -1,6 +1,5 @@
 -- The library's answer as a number. Assumes nothing.
 use Rattle.capi_pam_writing.proofs.PamWritings.{write_refused, write_done}
-use borrow.Author.Rules.{rules}
 use Rattle.capi_pam_writing.proofs.jonquilsaw_write_pam_header.Goals as goal
 
 pub returns-in-Refused : goal.returns-in-Refused

@@ -5,7 +5,6 @@ use borrow.Author.Tests.{lt-ltb, le-ltb}
 use Rattle.capi_words.proofs.Boundary.{misuse_told, misuse_kept, passed}
 use Rattle.capi_pictures.specs.Pictures.{number_of_scaled, size_after_scaled}
 use Rattle.capi_pictures.proofs.Answers.{size-refused, size-stored}
-use borrow.Author.Rules.{rules}
 use Rattle.capi_pictures.proofs.jonquilsaw_scaled.Goals as goal
 
 pub returns-then-size-lt2 : goal.returns-then-size-lt2

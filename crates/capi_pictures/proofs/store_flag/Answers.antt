@@ -1,6 +1,5 @@
 -- A refusal keeps the word, since its number is not 0; a flag is stored. Assumes nothing.
 use Rattle.capi_pictures.proofs.Answers.{flag-refused, flag-stored}
-use borrow.Author.Rules.{rules}
 use Rattle.capi_pictures.proofs.store_flag.Goals as goal
 
 pub returns-in-Refused : goal.returns-in-Refused

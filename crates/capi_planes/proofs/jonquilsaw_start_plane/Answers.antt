@@ -1,25 +1,24 @@
 -- Too few words are refused first; else the library's answer: a refusal keeps the words, a fresh record is stored. Assumes nothing.
 use Rattle.capi_planes.proofs.Planes.{plane_short, plane_refused, plane_fresh}
-use borrow.Author.Rules.{rules}
 use Rattle.capi_planes.proofs.jonquilsaw_start_plane.Goals as goal
 
 pub returns-then-record-lt-RECORD_WORDS : goal.returns-then-record-lt-RECORD_WORDS
 returns-then-record-lt-RECORD_WORDS c =
     let g = c.args in
     let both = plane_short g.source_width g.source_height g.lanes g.crop_x g.crop_y g.crop_width g.crop_height g.target_width g.target_height
-        g.work.now g.«record».now c.if-record-lt-RECORD_WORDS.true in
+    g.work.now g.«record».now c.if-record-lt-RECORD_WORDS.true in
     record { number = both.0; work = both.1.0; «record» = both.1.1 }
 
 pub returns-in-Refused : goal.returns-in-Refused
 returns-in-Refused c =
     let g = c.args in
     let both = plane_refused g.source_width g.source_height g.lanes g.crop_x g.crop_y g.crop_width g.crop_height g.target_width g.target_height
-        g.work.now g.«record».now c.if-record-lt-RECORD_WORDS.false c.start_plane-answer.result c.start_plane-answer.ensures.number _ c.start_plane-answer.ensures.work c.in-Refused.why c.number.result c.in-Refused.is c.number.ensures in
+    g.work.now g.«record».now c.if-record-lt-RECORD_WORDS.false c.start_plane-answer.result c.start_plane-answer.ensures.number _ c.start_plane-answer.ensures.work c.in-Refused.why c.number.result c.in-Refused.is c.number.ensures in
     record { number = both.0; work = both.1.0; «record» = both.1.1 }
 
 pub returns-in-Fresh : goal.returns-in-Fresh
 returns-in-Fresh c =
     let g = c.args in
     let both = plane_fresh g.source_width g.source_height g.lanes g.crop_x g.crop_y g.crop_width g.crop_height g.target_width g.target_height
-        g.work.now g.«record».now c.if-record-lt-RECORD_WORDS.false c.start_plane-answer.result c.start_plane-answer.ensures.number _ c.start_plane-answer.ensures.work c.in-Fresh.job _ c.in-Fresh.is c.start_plane-answer.ensures.job c.store_job.ensures in
+    g.work.now g.«record».now c.if-record-lt-RECORD_WORDS.false c.start_plane-answer.result c.start_plane-answer.ensures.number _ c.start_plane-answer.ensures.work c.in-Fresh.job _ c.in-Fresh.is c.start_plane-answer.ensures.job c.store_job.ensures in
     record { number = both.0; work = both.1.0; «record» = both.1.1 }

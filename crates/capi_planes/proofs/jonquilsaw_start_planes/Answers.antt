@@ -1,6 +1,5 @@
 -- Too few words of any record are refused first; else the library's answer: a refusal keeps the words, three fresh records are stored. Assumes nothing.
 use Rattle.capi_planes.proofs.Planes.{luma_short, cb_short, cr_short, planes_refused, planes_fresh}
-use borrow.Author.Rules.{rules}
 use Rattle.capi_planes.proofs.jonquilsaw_start_planes.Goals as goal
 
 pub returns-then-luma-lt-RECORD_WORDS : goal.returns-then-luma-lt-RECORD_WORDS
@@ -25,8 +24,8 @@ pub returns-in-Refused : goal.returns-in-Refused
 returns-in-Refused c =
     let g = c.args in
     let both = planes_refused g.source_width g.source_height g.target_width g.target_height g.luma_work.now g.cb_work.now g.cr_work.now g.luma.now g.cb.now g.cr.now
-        c.if-luma-lt-RECORD_WORDS.false c.if-cb-lt-RECORD_WORDS.false c.if-cr-lt-RECORD_WORDS.false c.start_planes-answer.result c.start_planes-answer.ensures.number _ _ _ c.start_planes-answer.ensures.luma c.start_planes-answer.ensures.cb c.start_planes-answer.ensures.cr
-        c.in-Refused.why c.number.result c.in-Refused.is c.number.ensures in
+    c.if-luma-lt-RECORD_WORDS.false c.if-cb-lt-RECORD_WORDS.false c.if-cr-lt-RECORD_WORDS.false c.start_planes-answer.result c.start_planes-answer.ensures.number _ _ _ c.start_planes-answer.ensures.luma c.start_planes-answer.ensures.cb c.start_planes-answer.ensures.cr
+    c.in-Refused.why c.number.result c.in-Refused.is c.number.ensures in
     record { number = both.0; luma_work = both.1.0; cb_work = both.1.1.0; cr_work = both.1.1.1.0; luma = both.1.1.1.1.0; cb = both.1.1.1.1.1.0; cr = both.1.1.1.1.1.1 }
 
 pub returns-in-Fresh : goal.returns-in-Fresh
@@ -34,6 +33,6 @@ returns-in-Fresh c =
     let g = c.args in
     let cb = c.store_job-in-Fresh.ensures in
     let both = planes_fresh g.source_width g.source_height g.target_width g.target_height g.luma_work.now g.cb_work.now g.cr_work.now g.luma.now g.cb.now g.cr.now
-        c.if-luma-lt-RECORD_WORDS.false c.if-cb-lt-RECORD_WORDS.false c.if-cr-lt-RECORD_WORDS.false c.start_planes-answer.result c.start_planes-answer.ensures.number _ _ _ c.start_planes-answer.ensures.luma c.start_planes-answer.ensures.cb c.start_planes-answer.ensures.cr
-        _ _ _ _ _ _ c.in-Fresh.is c.start_planes-answer.ensures.jobs.0 c.start_planes-answer.ensures.jobs.1 c.start_planes-answer.ensures.jobs.2 c.store_job.ensures cb c.store_job-in-Fresh-2.ensures in
+    c.if-luma-lt-RECORD_WORDS.false c.if-cb-lt-RECORD_WORDS.false c.if-cr-lt-RECORD_WORDS.false c.start_planes-answer.result c.start_planes-answer.ensures.number _ _ _ c.start_planes-answer.ensures.luma c.start_planes-answer.ensures.cb c.start_planes-answer.ensures.cr
+    _ _ _ _ _ _ c.in-Fresh.is c.start_planes-answer.ensures.jobs.0 c.start_planes-answer.ensures.jobs.1 c.start_planes-answer.ensures.jobs.2 c.store_job.ensures cb c.store_job-in-Fresh-2.ensures in
     record { number = both.0; luma_work = both.1.0; cb_work = both.1.1.0; cr_work = both.1.1.1.0; luma = both.1.1.1.1.0; cb = both.1.1.1.1.1.0; cr = both.1.1.1.1.1.1 }

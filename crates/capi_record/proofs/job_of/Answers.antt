@@ -1,6 +1,5 @@
 -- Each word is read at its place. Assumes nothing.
 use Rattle.capi_record.specs.Record.{words_job}
-use borrow.Author.Rules.{rules}
 use Rattle.capi_record.proofs.job_of.Goals as goal
 
 pub returns : goal.returns

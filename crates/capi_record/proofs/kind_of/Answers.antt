@@ -1,6 +1,5 @@
 -- A word that is not 1 stands for a picture. Assumes nothing.
 use Rattle.capi_record.proofs.Records.{first_kind}
-use borrow.Author.Rules.{rules}
 use Rattle.capi_record.proofs.kind_of.Goals as goal
 
 pub returns-in_default : goal.returns-in_default

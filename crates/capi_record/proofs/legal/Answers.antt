@@ -1,6 +1,5 @@
 -- The tests in their order. Assumes nothing.
 use Rattle.capi_record.proofs.Records.{too_short, no_layout, no_kind, flag_decides}
-use borrow.Author.Rules.{rules}
 use Rattle.capi_record.proofs.legal.Goals as goal
 
 pub returns-then-words-lt-RECORD_WORDS : goal.returns-then-words-lt-RECORD_WORDS

@@ -1,5 +1,4 @@
 -- Words that make no record tell nothing; the others tell the record that is read. Assumes nothing.
-use borrow.Author.Rules.{rules}
 use borrow.Author.Tests.{not-true, not-false}
 use Rattle.capi_record.proofs.Records.{enough_words, told_nothing, told_job}
 use Rattle.capi_record.proofs.read_job.Goals as goal

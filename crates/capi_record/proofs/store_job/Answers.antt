@@ -1,6 +1,5 @@
 -- The words of the record, stored as one answer. Assumes nothing.
 use Rattle.capi_record.proofs.Records.{job_stored}
-use borrow.Author.Rules.{rules}
 use Rattle.capi_record.proofs.store_job.Goals as goal
 
 pub returns : goal.returns

@@ -1,6 +1,5 @@
 -- A word that is neither 1 nor 2 stands for the first layout. Assumes nothing.
 use Rattle.capi_words.proofs.Words.{first_layout}
-use borrow.Author.Rules.{rules}
 use Rattle.capi_words.proofs.layout_of.Goals as goal
 
 pub returns-in_default : goal.returns-in_default

@@ -1,13 +1,11 @@
 -- Too few words are left as they were. The invariant: the words with the answer's first i pasted in from the start. Assumes nothing.
-use Prim.Native.Nat.{◌≤◌, ◌<◌, ◌-◌}
+use Prim.Native.Nat.{◌<◌, ◌-◌}
 use mathlib.Core.Path.{◌≡◌, refl, sym, ◌∙◌}
 use native.Mathlib.Omega.{arith}
 use native.Mathlib.Numerals.{add-one}
-use mathlib.Core.List.{◌++◌}
-use lib.ListN.{length, take, drop, length-set}
+use lib.ListN.{length, length-set}
 use lib.Seq.{take-length}
 use Rattle.capi_words.proofs.Words.{stored_enough, stored_short, store_next}
-use borrow.Author.Rules.{rules}
 use Rattle.capi_words.proofs.store.Goals as goal
 
 pub returns-then-words-answer : goal.returns-then-words-answer

@@ -1,13 +1,8 @@
 -- Too few words are left as they were. The invariant: the words with the answer's first i pasted in from the start. Assumes nothing.
-use Prim.Native.Nat.{◌≤◌, ◌<◌, ◌-◌}
-use mathlib.Core.Path.{◌≡◌, refl, sym, ◌∙◌}
-use native.Mathlib.Omega.{arith}
-use native.Mathlib.Numerals.{add-one}
+use Prim.Native.Nat.{◌≤◌, ◌-◌}
+use mathlib.Core.Path.{◌≡◌}
 use mathlib.Core.List.{◌++◌}
-use lib.ListN.{length, take, drop, length-set}
-use lib.Seq.{take-length}
-use Rattle.capi_words.proofs.Words.{stored_enough, stored_short, store_next}
-use borrow.Author.Rules.{rules}
+use lib.ListN.{length, take, drop}
 use Rattle.capi_words.proofs.store.Given as goal
 
 abbrev pub invariant-loop-i : goal.invariant-loop-i

@@ -2,8 +2,7 @@
 use Prim.Native.Nat.{◌-◌}
 use native.Mathlib.Omega.{arith}
 use Rattle.group_rules.proofs.Lawful.{lawful_group}
-use Rattle.group.proofs.Feeding.{Advancing, advancing_first, advancing_more, advancing_done}
-use borrow.Author.Rules.{rules}
+use Rattle.group.proofs.Feeding.{advancing_first, advancing_more, advancing_done}
 use Rattle.group.proofs.all_more.Goals as goal
 
 pub loop-i-init : goal.loop-i-init

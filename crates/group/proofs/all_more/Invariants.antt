@@ -1,9 +1,6 @@
 -- Each record so far counts the rows; the others are as they were. Assumes nothing.
 use Prim.Native.Nat.{◌-◌}
-use native.Mathlib.Omega.{arith}
-use Rattle.group_rules.proofs.Lawful.{lawful_group}
-use Rattle.group.proofs.Feeding.{Advancing, advancing_first, advancing_more, advancing_done}
-use borrow.Author.Rules.{rules}
+use Rattle.group.proofs.Feeding.{Advancing}
 use Rattle.group.proofs.all_more.Given as goal
 
 abbrev pub invariant-loop-i : goal.invariant-loop-i

@@ -5,7 +5,7 @@ use Rattle.group_tests.proofs.Testing.{ready_here}
 use Rattle.group.proofs.Going.{legal_offer, most_some}
 use Prim.Native.Nat.{◌-◌}
 use native.Mathlib.Omega.{arith}
-use Rattle.group.proofs.Counted.{Counting, counting_first, counting_more, counting_ready, counting_full}
+use Rattle.group.proofs.Counted.{counting_first, counting_more, counting_ready, counting_full}
 use borrow.Author.Rules.{rules}
 use Rattle.group.proofs.count_rows.Goals as goal
 

@@ -2,8 +2,7 @@
 use mathlib.Core.Path.{◌≡◌}
 use Prim.Native.Nat.{◌-◌}
 use native.Mathlib.Omega.{arith}
-use Rattle.group.proofs.Feeding.{Feeding, feeding_first, within, small, fits, feeding_more}
-use borrow.Author.Rules.{rules}
+use Rattle.group.proofs.Feeding.{feeding_first, within, small, fits, feeding_more}
 use Rattle.group.proofs.feed_row.Goals as goal
 
 pub loop-i-init : goal.loop-i-init

@@ -1,9 +1,6 @@
 -- The parts of the jobs so far have the row, the rest is as it was. Assumes nothing.
-use mathlib.Core.Path.{◌≡◌}
 use Prim.Native.Nat.{◌-◌}
-use native.Mathlib.Omega.{arith}
-use Rattle.group.proofs.Feeding.{Feeding, feeding_first, within, small, fits, feeding_more}
-use borrow.Author.Rules.{rules}
+use Rattle.group.proofs.Feeding.{Feeding}
 use Rattle.group.proofs.feed_row.Given as goal
 
 abbrev pub invariant-loop-i : goal.invariant-loop-i

@@ -2,8 +2,7 @@
 use mathlib.Core.Path.{◌≡◌}
 use Prim.Native.Nat.{◌-◌}
 use native.Mathlib.Omega.{arith}
-use Rattle.group.proofs.Feeding.{Rows, rows_first, row_lent, row_number, row_asks, rows_more}
-use borrow.Author.Rules.{rules}
+use Rattle.group.proofs.Feeding.{rows_first, row_lent, row_number, row_asks, rows_more}
 use Rattle.group.proofs.feed_rows.Goals as goal
 
 pub loop-r-init : goal.loop-r-init

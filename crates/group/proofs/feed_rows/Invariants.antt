@@ -1,9 +1,6 @@
 -- All jobs have been fed the rows so far. Assumes nothing.
-use mathlib.Core.Path.{◌≡◌}
 use Prim.Native.Nat.{◌-◌}
-use native.Mathlib.Omega.{arith}
-use Rattle.group.proofs.Feeding.{Rows, rows_first, row_lent, row_number, row_asks, rows_more}
-use borrow.Author.Rules.{rules}
+use Rattle.group.proofs.Feeding.{Rows}
 use Rattle.group.proofs.feed_rows.Given as goal
 
 abbrev pub invariant-loop-r : goal.invariant-loop-r

@@ -4,7 +4,6 @@ use lib.ListN.{length}
 use Rattle.group_rules.specs.Tests.{group_offer_number}
 use Rattle.group.proofs.Going.{legal_offer}
 use Rattle.group.proofs.Answering.{offer_refused, offer_accepts, count_fits}
-use borrow.Author.Rules.{rules}
 use Rattle.group.proofs.offer_group.Goals as goal
 
 pub returns-in-Refused : goal.returns-in-Refused

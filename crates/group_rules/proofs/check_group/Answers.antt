@@ -1,5 +1,4 @@
 -- Each return is the first rule that is broken; the last rule decides. Assumes nothing.
-use borrow.Author.Rules.{rules}
 use Rattle.group_rules.proofs.Lawful.{too_many_lem, jobs_unlike, steps_decide}
 use Rattle.group_rules.proofs.check_group.Goals as goal
 

@@ -1,5 +1,4 @@
 -- Each return is the first comparison that fails. Assumes nothing.
-use borrow.Author.Rules.{rules}
 use Rattle.group_rules.proofs.Alike.{other_width, other_height, other_layout, other_kind_lem, lanes_decide}
 use Rattle.group_rules.proofs.plans_alike.Goals as goal
 

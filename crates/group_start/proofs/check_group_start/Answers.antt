@@ -1,5 +1,4 @@
 -- Each return is the first cause whose test failed. Assumes nothing.
-use borrow.Author.Rules.{rules}
 use borrow.Author.Tests.{lt-ltb, le-ltb}
 use Rattle.pixels.specs.declared.Refusal.TheVariants.{InvalidDimensions, CropOutOfBounds, WorkLength, InvalidLanes, InvalidGroup, GroupTooLarge}
 use Rattle.pixels.proofs.Causes.{first_at, first_none}

@@ -1,5 +1,4 @@
 -- Each kind has its own plan. Assumes nothing.
-use borrow.Author.Rules.{rules}
 use Rattle.group_start.proofs.Forming.{of_picture, of_plane}
 use Rattle.group_start.proofs.formed_plan.Goals as goal
 

@@ -1,9 +1,7 @@
 -- The loop of `Forming`. Assumes nothing.
-use borrow.Author.Rules.{rules}
-use mathlib.Core.Path.{◌≡◌}
-use Prim.Native.Nat.{◌≤◌, ◌-◌}
+use Prim.Native.Nat.{◌-◌}
 use native.Mathlib.Omega.{arith}
-use Rattle.group_start.proofs.Forming.{Forming, forming_first, forming_more, formed_all}
+use Rattle.group_start.proofs.Forming.{forming_first, forming_more, formed_all}
 use Rattle.group_start.proofs.group_of.Goals as goal
 
 pub overflow_cast-known : goal.overflow_cast-known

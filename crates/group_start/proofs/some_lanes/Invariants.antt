@@ -1,12 +1,8 @@
 -- No job before i has number 10. Assumes nothing.
-use borrow.Author.Rules.{rules}
-use mathlib.Core.Path.{◌≡◌, sym, ◌∙◌}
+use mathlib.Core.Path.{◌≡◌}
 use mathlib.Core.Bool.{false}
 use Prim.Native.Nat.{◌≤◌, ◌-◌}
-use native.Mathlib.Omega.{arith}
-use native.Mathlib.Numerals.{add-one}
-use Rattle.group_rules.specs.Group.{some, looked}
-use Rattle.group_rules.proofs.Jobs.{some_nothing, some_more, some_found}
+use Rattle.group_rules.specs.Group.{some}
 use Rattle.group_start.specs.Inner.{lanes_at}
 use Rattle.group_start.proofs.some_lanes.Given as goal
 

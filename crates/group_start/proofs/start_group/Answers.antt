@@ -1,6 +1,4 @@
 -- A refusal is handed on with its number; else the parts of all jobs are cleared. Assumes nothing.
-use borrow.Author.Rules.{rules}
-use mathlib.Core.Path.{sym}
 use Rattle.group_start.proofs.Starting.{start_turned, start_room, start_went}
 use Rattle.group_start.proofs.start_group.Goals as goal
 

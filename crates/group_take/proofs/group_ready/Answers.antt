@@ -3,7 +3,6 @@ use native.Mathlib.Omega.{arith}
 use Rattle.group_rules.proofs.Lawful.{lawful_group}
 use Rattle.group_tests.proofs.Testing.{lawful_is}
 use Rattle.group_take.proofs.Answering.{ready_broken, ready_lacking, ready_job}
-use borrow.Author.Rules.{rules}
 use Rattle.group_take.proofs.group_ready.Goals as goal
 
 pub returns-then-not-check_group : goal.returns-then-not-check_group

@@ -3,7 +3,6 @@ use mathlib.Core.Path.{◌≡◌, sym}
 use lib.ListN.{length}
 use Rattle.group_rules.specs.Tests.{group_take_number}
 use Rattle.group_take.proofs.Answering.{place_here, take_refused, take_writes}
-use borrow.Author.Rules.{rules}
 use Rattle.group_take.proofs.take_group.Goals as goal
 
 pub take_part-next-requires : goal.take_part-next-requires

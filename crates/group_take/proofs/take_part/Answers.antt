@@ -10,7 +10,6 @@ use Rattle.group_rules.specs.Group.{job_at}
 use Rattle.group.specs.Calls.{with_jobs}
 use Rattle.group_rules.proofs.Going.{group_take_goes}
 use Rattle.group.proofs.Going.{take_within, take_small, take_fits, take_cut, take_put}
-use borrow.Author.Rules.{rules}
 use Rattle.group_take.proofs.take_part.Goals as goal
 
 pub offset_bounds-g-k : goal.offset_bounds-g-k

@@ -1,7 +1,6 @@
 -- The record of either answer. Assumes nothing.
 use mathlib.Core.Path.{sym, ap}
 use Rattle.job.specs.Answers.{takenJob}
-use borrow.Author.Rules.{rules}
 use Rattle.group_take.proofs.taken_job.Goals as goal
 
 pub returns-in-Wrote : goal.returns-in-Wrote

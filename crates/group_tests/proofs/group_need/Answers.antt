@@ -1,8 +1,7 @@
 -- Assumes nothing.
-use borrow.Author.Rules.{rules}
 use mathlib.Core.Path.{sym, ◌∙◌}
 use native.Mathlib.Omega.{arith}
-use Rattle.pixels.proofs.Truths.{not_true, not_false}
+use Rattle.pixels.proofs.Truths.{not_true}
 use Rattle.group_tests.proofs.Testing.{lawful_is}
 use Rattle.group_tests.proofs.group_need.Goals as goal
 

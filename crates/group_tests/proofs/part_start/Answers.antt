@@ -1,9 +1,7 @@
 -- `part_start`: the loop of `Summing`. Assumes nothing.
-use borrow.Author.Rules.{rules}
-use mathlib.Core.Path.{◌≡◌}
-use Prim.Native.Nat.{◌≤◌, ◌-◌}
+use Prim.Native.Nat.{◌-◌}
 use native.Mathlib.Omega.{arith}
-use Rattle.group_tests.proofs.Summing.{Summing, summing_first, within, half_most, sum_most, summing_more, summed}
+use Rattle.group_tests.proofs.Summing.{summing_first, within, half_most, sum_most, summing_more, summed}
 use Rattle.group_tests.proofs.part_start.Goals as goal
 
 pub loop-i-init : goal.loop-i-init

@@ -1,9 +1,6 @@
 -- `part_start`: the loop of `Summing`. Assumes nothing.
-use borrow.Author.Rules.{rules}
-use mathlib.Core.Path.{◌≡◌}
-use Prim.Native.Nat.{◌≤◌, ◌-◌}
-use native.Mathlib.Omega.{arith}
-use Rattle.group_tests.proofs.Summing.{Summing, summing_first, within, half_most, sum_most, summing_more, summed}
+use Prim.Native.Nat.{◌-◌}
+use Rattle.group_tests.proofs.Summing.{Summing}
 use Rattle.group_tests.proofs.part_start.Given as goal
 
 abbrev pub invariant-loop-i : goal.invariant-loop-i

@@ -3,7 +3,7 @@ use Prim.Native.Nat.{◌-◌}
 use mathlib.Core.Path.{◌∙◌}
 use native.Mathlib.Omega.{arith}
 use Rattle.job.proofs.Views.{offer_went}
-use Rattle.job.proofs.Accepting.{Accepting, accepting_first, in_lent, in_range, next_fed, accepting_full, accepting_ready, next_count, accepting_more}
+use Rattle.job.proofs.Accepting.{accepting_first, in_lent, in_range, next_fed, accepting_full, accepting_ready, next_count, accepting_more}
 use borrow.Author.Rules.{rules}
 use Rattle.job.proofs.accept.Goals as goal
 

@@ -3,7 +3,6 @@ use native.Mathlib.Omega.{arith}
 use native.Mathlib.Nat.{mul-le-mul}
 use Rattle.job_rules.proofs.KindRules.{lane_count}
 use Rattle.job.proofs.Accepting.{most_lent, most_left}
-use borrow.Author.Rules.{rules}
 use Rattle.job.proofs.most_rows.Goals as goal
 
 pub nonzero_div-lent : goal.nonzero_div-lent

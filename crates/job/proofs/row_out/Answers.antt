@@ -2,7 +2,6 @@
 use mathlib.Core.Bool.{Bool, ◌||◌}
 use mathlib.Core.Path.{ap, ◌∙◌}
 use Rattle.job.proofs.RowOut.{row_out, flag_out, work_out}
-use borrow.Author.Rules.{rules}
 use Rattle.job.proofs.row_out.Goals as goal
 
 pub returns : goal.returns

@@ -2,7 +2,7 @@
 use borrow.Author.Rules.{rules}
 use native.Mathlib.Omega.{arith}
 use Rattle.job_band.proofs.Testing.{band_went}
-use Rattle.job_band.proofs.Adding.{Adding, adding_first, some_rows, last_less, in_lent, row_asks, turn_lent, turn_range, turn, added_one, added_all}
+use Rattle.job_band.proofs.Adding.{adding_first, some_rows, last_less, in_lent, row_asks, turn_lent, turn_range, turn, added_one, added_all}
 use Rattle.job_band.proofs.add_band.Goals as goal
 
 pub band_of-n-requires : goal.band_of-n-requires

@@ -1,8 +1,5 @@
 -- The loop keeps `Adding`: the rows from the present one to the last are summed. Then the last goes to the second half once more, if it is not the only one. Assumes nothing.
-use borrow.Author.Rules.{rules}
-use native.Mathlib.Omega.{arith}
-use Rattle.job_band.proofs.Testing.{band_went}
-use Rattle.job_band.proofs.Adding.{Adding, adding_first, some_rows, last_less, in_lent, row_asks, turn_lent, turn_range, turn, added_one, added_all}
+use Rattle.job_band.proofs.Adding.{Adding}
 use Rattle.job_band.proofs.add_band.Given as goal
 
 abbrev pub invariant-loop-i : goal.invariant-loop-i

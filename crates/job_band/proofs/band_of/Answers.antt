@@ -2,7 +2,6 @@
 use native.Mathlib.Omega.{arith}
 use mathlib.Core.Path.{sym, refl}
 use Rattle.job_band.proofs.Stretching.{band_none, none_above, none_left, none_grows, found_some, found_most, found_used, found_rows}
-use borrow.Author.Rules.{rules}
 use Rattle.job_band.proofs.band_of.Goals as goal
 
 pub returns-then-j-p : goal.returns-then-j-p

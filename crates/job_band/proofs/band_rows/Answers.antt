@@ -3,7 +3,6 @@ use Rattle.job_band.proofs.Testing.{next_none, next_some}
 use Rattle.job_rules.proofs.Rules.{rules_of}
 use Rattle.pixels.proofs.Truths.{not_true, not_false}
 use mathlib.Core.Path.{sym, ◌∙◌}
-use borrow.Author.Rules.{rules}
 use Rattle.job_band.proofs.band_rows.Goals as goal
 
 pub returns-then-not-check : goal.returns-then-not-check

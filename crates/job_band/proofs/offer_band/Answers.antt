@@ -4,7 +4,6 @@ use Rattle.job_band.specs.Bands.{band_number}
 use lib.ListN.{length}
 use mathlib.Core.Path.{◌≡◌, sym}
 use native.Mathlib.Omega.{arith}
-use borrow.Author.Rules.{rules}
 use Rattle.job_band.proofs.offer_band.Goals as goal
 
 pub returns-in-Refused : goal.returns-in-Refused

@@ -1,6 +1,5 @@
 -- The row comes in as the first of two that one crop row grows to. Assumes nothing.
 use Rattle.job_band.proofs.SecondHalf.{second_written}
-use borrow.Author.Rules.{rules}
 use Rattle.job_band.proofs.put_second.Goals as goal
 
 pub returns : goal.returns

@@ -3,7 +3,6 @@ use mathlib.Core.Path.{sym, ◌∙◌}
 use Rattle.pixels.proofs.Causes.{first_at, first_none}
 use Rattle.job_planes.specs.Planes.{planes_causes, planes_number}
 use Rattle.job_planes.proofs.PlaneStarts.{too_few, enough}
-use borrow.Author.Rules.{rules}
 use Rattle.job_planes.proofs.check_planes.Goals as goal
 
 pub returns-then-bad_size : goal.returns-then-bad_size

@@ -1,7 +1,6 @@
 -- `chroma_size`: half of each side. Assumes nothing.
 use mathlib.Core.Path.{ap₂}
 use Rattle.pixels.specs.Sizes.{size_of}
-use borrow.Author.Rules.{rules}
 use Rattle.job_planes.proofs.chroma_size.Goals as goal
 
 pub returns : goal.returns

@@ -1,6 +1,5 @@
 -- `job_of`: the record of either answer. Assumes nothing.
 use mathlib.Core.Path.{refl}
-use borrow.Author.Rules.{rules}
 use Rattle.job_planes.proofs.job_of.Goals as goal
 
 pub returns-in-Fresh : goal.returns-in-Fresh

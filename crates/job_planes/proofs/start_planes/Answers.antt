@@ -1,12 +1,8 @@
 -- `start_planes`: a refusal leaves everything; else each plane's start is accepted, and its job is fresh. Assumes nothing.
-use Prim.Native.Nat.{ℕ}
-use mathlib.Core.Path.{◌≡◌, refl, sym, ◌∙◌}
-use mathlib.Core.List.{List}
+use mathlib.Core.Path.{refl, sym, ◌∙◌}
 use lib.ListN.{length}
-use Rattle.pixels.specs.declared.Dimensions.{Dimensions}
-use Rattle.job_planes.specs.Planes.{plane_for, chroma_for, planes_number}
+use Rattle.job_planes.specs.Planes.{plane_for, chroma_for}
 use Rattle.job_planes.proofs.PlaneStarts.{all_start, slice_cleared, slice_kept}
-use borrow.Author.Rules.{rules}
 use Rattle.job_planes.proofs.start_planes.Goals as goal
 
 pub returns-in-Refused : goal.returns-in-Refused

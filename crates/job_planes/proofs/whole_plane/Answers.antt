@@ -1,5 +1,4 @@
 -- `whole_plane`: a plane of one lane with the full crop. Assumes nothing.
-use borrow.Author.Rules.{rules}
 use Rattle.job_planes.proofs.whole_plane.Goals as goal
 
 pub returns : goal.returns

@@ -1,7 +1,6 @@
 -- The next record of an offer, whichever the answer is. Assumes nothing.
 use Rattle.job.specs.Answers.{offeredJob}
-use mathlib.Core.Path.{sym, ap, ◌∙◌}
-use borrow.Author.Rules.{rules}
+use mathlib.Core.Path.{sym, ap}
 use Rattle.job_resize.proofs.after_offer.Goals as goal
 
 pub returns-in-Accepted : goal.returns-in-Accepted

@@ -1,7 +1,6 @@
 -- The next record of a take, whichever the answer is. Assumes nothing.
 use Rattle.job.specs.Answers.{takenJob}
-use mathlib.Core.Path.{sym, ap, ◌∙◌}
-use borrow.Author.Rules.{rules}
+use mathlib.Core.Path.{sym, ap}
 use Rattle.job_resize.proofs.after_take.Goals as goal
 
 pub returns-in-Wrote : goal.returns-in-Wrote

@@ -2,7 +2,6 @@
 use mathlib.Core.Path.{sym, ◌∙◌}
 use native.Mathlib.Omega.{arith}
 use borrow.Author.Tests.{lt-ltb, le-ltb}
-use borrow.Author.Rules.{rules}
 use Rattle.pixels.proofs.Causes.{first_at, first_none, first_past, first_stays}
 use Rattle.pixels.specs.Sizes.{pixel_lanes, work_values, sizes_causes, sizes_number}
 use Rattle.job_resize.specs.Resize.{length_causes, resize_number}

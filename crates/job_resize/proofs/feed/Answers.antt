@@ -3,7 +3,6 @@ use Prim.Native.Nat.{ℕ, ◌*◌}
 use mathlib.Core.Path.{ap, ◌∙◌}
 use native.Mathlib.Omega.{arith}
 use Rattle.job_resize.proofs.Turning.{feed_keeps, feed_offers, rest_all}
-use borrow.Author.Rules.{rules}
 use Rattle.job_resize.proofs.feed.Goals as goal
 
 pub returns-then-ready-ne0 : goal.returns-then-ready-ne0

@@ -1,6 +1,5 @@
 -- A refusal is handed on with its number; else the job is started and driven to its end. Assumes nothing.
 use mathlib.Core.Path.{sym}
-use borrow.Author.Rules.{rules}
 use Rattle.job_resize.proofs.Answers.{resize_refused, never, job_asked, finishes}
 use Rattle.job_resize.proofs.resize.Goals as goal
 

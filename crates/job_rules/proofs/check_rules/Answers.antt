@@ -1,7 +1,6 @@
 -- The tests in their order: the first rule that is broken says false. Assumes nothing.
 use mathlib.Core.Path.{sym}
 use Rattle.job_rules.proofs.Rules.{rule_sizes, rule_counts, rule_kind, rule_taken, rule_flag}
-use borrow.Author.Rules.{rules}
 use Rattle.job_rules.proofs.check_rules.Goals as goal
 
 pub returns-in-Refused : goal.returns-in-Refused

@@ -2,7 +2,6 @@
 use mathlib.Core.Path.{sym, ◌∙◌}
 use Rattle.pixels.proofs.Causes.{first_at, first_none}
 use Rattle.job_rules.specs.Rules.{start_causes, start_number}
-use borrow.Author.Rules.{rules}
 use Rattle.job_rules.proofs.check_start.Goals as goal
 
 pub returns-then-wrong_sizes : goal.returns-then-wrong_sizes

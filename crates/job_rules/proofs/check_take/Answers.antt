@@ -1,7 +1,6 @@
 -- Each return is the first cause whose test failed. Assumes nothing.
 use mathlib.Core.Path.{sym, ◌∙◌}
 use borrow.Author.Tests.{le-leb, lt-leb}
-use borrow.Author.Rules.{rules}
 use Rattle.pixels.proofs.Causes.{first_at, first_none}
 use Rattle.pixels.proofs.Truths.{differ, same}
 use Rattle.job_rules.specs.Rules.{take_causes, take_number_of}

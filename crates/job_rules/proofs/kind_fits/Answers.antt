@@ -2,7 +2,6 @@
 use mathlib.Core.Path.{sym, ap, ◌∙◌}
 use Rattle.job_rules.specs.Rules.{is_rgba}
 use Rattle.job_rules.proofs.KindRules.{of_picture, other_layout, other_lanes, of_plane}
-use borrow.Author.Rules.{rules}
 use Rattle.job_rules.proofs.kind_fits.Goals as goal
 
 pub returns-in-Picture : goal.returns-in-Picture

@@ -4,7 +4,6 @@ use native.Mathlib.Omega.{arith}
 use mir.Syntax.{w64}
 use mir.Val.{Fits}
 use Rattle.arithmetic.proofs.Products.{most}
-use borrow.Author.Rules.{rules}
 use Rattle.job_rules.proofs.row_bytes.Goals as goal
 
 fits : (x y : ℕ) → x < 2 ^ 32 → y < 2 ^ 32 → Fits w64 (x * y)

@@ -2,7 +2,6 @@
 use mathlib.Core.Path.{sym, ap}
 use Rattle.job_rules.specs.Rules.{form_by}
 use Rattle.job_rules.specs.declared.Kind.{Kind}
-use borrow.Author.Rules.{rules}
 use Rattle.job_rules.proofs.row_form.Goals as goal
 
 pub returns-in-Picture : goal.returns-in-Picture

@@ -3,7 +3,6 @@ use Prim.Native.Nat.{ℕ, ◌*◌}
 use mathlib.Core.Path.{ap, ◌∙◌}
 use lib.Dec.{ltb}
 use Rattle.job_rules.proofs.Testing.{halves}
-use borrow.Author.Rules.{rules}
 use Rattle.job_rules.proofs.short_work.Goals as goal
 
 pub returns : goal.returns

@@ -3,7 +3,6 @@ use Prim.Native.Nat.{ℕ, ◌*◌}
 use mathlib.Core.Path.{sym, ap}
 use native.Mathlib.Omega.{arith}
 use Rattle.job_start.proofs.Starting.{start_went, start_refused, start_goes}
-use borrow.Author.Rules.{rules}
 use Rattle.job_start.proofs.begin.Goals as goal
 
 pub returns-in-Refused : goal.returns-in-Refused

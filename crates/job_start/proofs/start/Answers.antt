@@ -1,5 +1,4 @@
 -- The plan of a picture is begun. Assumes nothing.
-use borrow.Author.Rules.{rules}
 use Rattle.job_start.proofs.start.Goals as goal
 
 pub returns : goal.returns

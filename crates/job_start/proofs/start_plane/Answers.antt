@@ -1,5 +1,4 @@
 -- The plan of a plane is begun. Assumes nothing.
-use borrow.Author.Rules.{rules}
 use Rattle.job_start.proofs.start_plane.Goals as goal
 
 pub returns : goal.returns

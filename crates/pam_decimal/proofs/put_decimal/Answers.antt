@@ -3,7 +3,6 @@ use Rattle.pam_decimal.proofs.Decimals.{some_digits, last_of}
 use Rattle.pam_put.specs.Put.{put_at}
 use mathlib.Core.Path.{◌∙◌, ap}
 use native.Mathlib.Omega.{arith}
-use borrow.Author.Rules.{rules}
 use Rattle.pam_decimal.proofs.put_decimal.Goals as goal
 
 pub overflow_sub-digits_of : goal.overflow_sub-digits_of

@@ -3,10 +3,8 @@ use Rattle.pam_seen.specs.Inner.{after_line}
 use native.Mathlib.Omega.{arith}
 use mathlib.Core.Path.{sym, ◌∙◌, ap}
 use Prim.Native.Nat.{◌-◌}
-use lib.ListN.{length}
 use borrow.Author.Tests.{not-true, not-false}
-use borrow.Author.Rules.{rules}
-use Rattle.pam_header.proofs.Going.{Going, begin_none, begin_other, begin, turn_none, turn_fits, turn_bad, turn_end, turn_on}
+use Rattle.pam_header.proofs.Going.{begin_none, begin_other, begin, turn_none, turn_fits, turn_bad, turn_end, turn_on}
 use Rattle.pam_header.proofs.pam_header.Goals as goal
 
 pub returns-then-input-first : goal.returns-then-input-first

@@ -2,7 +2,6 @@
 use Rattle.pam_heading.proofs.Chain.{heading_length}
 use Rattle.pam_decimal.proofs.Decimals.{some_digits}
 use native.Mathlib.Omega.{arith}
-use borrow.Author.Rules.{rules}
 use Rattle.pam_heading.proofs.heading_length.Goals as goal
 
 pub overflow_add-result : goal.overflow_add-result

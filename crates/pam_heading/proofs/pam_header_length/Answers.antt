@@ -1,7 +1,6 @@
 -- The size decides. Assumes nothing.
 use Rattle.pam_heading.proofs.Lengths.{length_refused, length_told}
 use mathlib.Core.Path.{sym, ◌∙◌}
-use borrow.Author.Rules.{rules}
 use Rattle.pam_heading.proofs.pam_header_length.Goals as goal
 
 pub returns-then-bad_size : goal.returns-then-bad_size

@@ -1,7 +1,6 @@
 -- One cause after the other; then the header is put. Assumes nothing.
 use Rattle.pam_heading.proofs.Lengths.{heading_wrong, heading_other, heading_written}
 use mathlib.Core.Path.{sym, ◌∙◌}
-use borrow.Author.Rules.{rules}
 use Rattle.pam_heading.proofs.pam_write_header.Goals as goal
 
 pub returns-then-bad_size : goal.returns-then-bad_size

@@ -4,7 +4,6 @@ use Rattle.pam_decimal.proofs.Decimals.{some_digits}
 use Prim.Native.Nat.{◌+◌}
 use mathlib.Core.Path.{ap}
 use native.Mathlib.Omega.{arith}
-use borrow.Author.Rules.{rules}
 use Rattle.pam_heading.proofs.put_heading.Goals as goal
 
 pub overflow_add-a : goal.overflow_add-a

@@ -2,7 +2,6 @@
 use Rattle.pam_line.specs.Inner.{type_said}
 use mathlib.Core.Path.{sym, ◌∙◌, refl}
 use borrow.Author.Tests.{eq-eqb, ne_eqb}
-use borrow.Author.Rules.{rules}
 use Rattle.pam_line.proofs.by_words.Goals as goal
 
 pub returns-then-a-eq0 : goal.returns-then-a-eq0

@@ -1,7 +1,6 @@
 -- Word after word of the form: those before it differ, it is the same. Assumes nothing.
 use Rattle.pam_line.specs.Line.{keyword_of}
 use mathlib.Core.Path.{sym, ◌∙◌}
-use borrow.Author.Rules.{rules}
 use Rattle.pam_line.proofs.keyword_of.Goals as goal
 
 pub returns-then-same : goal.returns-then-same

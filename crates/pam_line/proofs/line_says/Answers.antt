@@ -1,7 +1,6 @@
 -- Each way out is a law of what a line says. Assumes nothing.
 use Rattle.pam_line.proofs.Saying.{says_nothing, says_comment, says_blank, says-words}
 use mathlib.Core.Path.{◌∙◌}
-use borrow.Author.Rules.{rules}
 use Rattle.pam_line.proofs.line_says.Goals as goal
 
 pub returns-then-line-eq0 : goal.returns-then-line-eq0

@@ -2,7 +2,6 @@
 use Rattle.pam_line.proofs.Saying.{number_letter, number_large, number_fits}
 use Rattle.pam_line.specs.Inner.{number_said}
 use borrow.Author.Tests.{eq-eqb, ne_eqb}
-use borrow.Author.Rules.{rules}
 use Rattle.pam_line.proofs.number_line.Goals as goal
 
 pub returns-then-word-eq0 : goal.returns-then-word-eq0

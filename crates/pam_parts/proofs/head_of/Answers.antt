@@ -4,7 +4,6 @@ use Prim.Native.Nat.{ℕ, ◌-◌}
 use lib.Seq.{take_all}
 use mathlib.Core.Path.{sym, ap}
 use native.Mathlib.Omega.{arith}
-use borrow.Author.Rules.{rules}
 use Rattle.pam_parts.proofs.head_of.Goals as goal
 
 pub returns-then-s-k : goal.returns-then-s-k

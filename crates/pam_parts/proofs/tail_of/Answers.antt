@@ -4,7 +4,6 @@ use Prim.Native.Nat.{◌-◌}
 use lib.Seq.{take_all}
 use mathlib.Core.Path.{sym}
 use native.Mathlib.Omega.{arith}
-use borrow.Author.Rules.{rules}
 use Rattle.pam_parts.proofs.tail_of.Goals as goal
 
 pub returns-then-s-k : goal.returns-then-s-k

@@ -2,7 +2,6 @@
 use Rattle.pam_reading.proofs.Reading.{no_pixels, header_refused, other_length_lem, the_pixels}
 use Rattle.pixels.specs.declared.Refusal.TheVariants.{PixelBufferMismatch, PamMalformed}
 use mathlib.Core.Path.{◌∙◌}
-use borrow.Author.Rules.{rules}
 use Rattle.pam_reading.proofs.pam_pixels.Goals as goal
 
 pub returns-then-wrong_rest : goal.returns-then-wrong_rest

@@ -1,7 +1,6 @@
 -- A refusal of the header is handed on; else the length decides. Assumes nothing.
 use Rattle.pam_reading.proofs.Reading.{no_size_lem, header_refused, other_length_lem, the_size}
 use Rattle.pixels.specs.declared.Refusal.TheVariants.{PixelBufferMismatch, PamMalformed}
-use borrow.Author.Rules.{rules}
 use Rattle.pam_reading.proofs.pam_size.Goals as goal
 
 pub returns-then-wrong_rest : goal.returns-then-wrong_rest

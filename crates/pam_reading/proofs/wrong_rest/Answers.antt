@@ -5,7 +5,6 @@ use Rattle.pixels.specs.Sizes.{pixel_lanes, picture_bytes}
 use native.Mathlib.Omega.{arith}
 use Prim.Native.Nat.{◌+◌}
 use mathlib.Core.Path.{sym, ◌∙◌}
-use borrow.Author.Rules.{rules}
 use Rattle.pam_reading.proofs.wrong_rest.Goals as goal
 
 pub returns-then-n-start : goal.returns-then-n-start

@@ -1,7 +1,6 @@
 -- By what the line says; a key or a type given before decides. Assumes nothing.
 use Rattle.pam_seen.proofs.Steps.{key_twice, key_once, type_again, type_first}
 use mathlib.Core.Path.{refl, ◌∙◌}
-use borrow.Author.Rules.{rules}
 use Rattle.pam_seen.proofs.after_line.Goals as goal
 
 pub returns-then-given-ne0 : goal.returns-then-given-ne0

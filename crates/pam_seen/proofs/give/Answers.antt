@@ -1,6 +1,5 @@
 -- One field by the key, the others as they were. Assumes nothing.
 use mathlib.Core.Path.{refl}
-use borrow.Author.Rules.{rules}
 use Rattle.pam_seen.proofs.give.Goals as goal
 
 pub returns-in-Width : goal.returns-in-Width

@@ -1,7 +1,6 @@
 -- By the class; a digit by its two bounds. Assumes nothing.
 use mathlib.Core.Path.{refl}
 use borrow.Author.Tests.{lt-leb, le-leb}
-use borrow.Author.Rules.{rules}
 use Rattle.pam_text.proofs.is_of.Goals as goal
 
 pub returns-then-b-lt48 : goal.returns-then-b-lt48

@@ -1,10 +1,8 @@
 -- The invariant: the run of the whole is i bytes and the run of what is left. Assumes nothing.
-use Rattle.pam_text.proofs.Texts.{Run, run_first, run_turn, run_stop, run_done}
+use Rattle.pam_text.proofs.Texts.{run_first, run_turn, run_stop, run_done}
 use borrow.Author.Tests.{not-true, not-false}
-use lib.ListN.{length}
 use Prim.Native.Nat.{◌-◌}
 use mathlib.Core.Path.{sym, ◌∙◌}
-use borrow.Author.Rules.{rules}
 use Rattle.pam_text.proofs.run_of.Goals as goal
 
 pub loop-i-init : goal.loop-i-init

@@ -1,9 +1,7 @@
 -- The invariant: the texts are the same if what is left of them is. Assumes nothing.
-use Rattle.pam_text.proofs.Texts.{Alike, alike_first, alike_short, alike_differ, alike_turn, alike_done}
-use lib.ListN.{length}
+use Rattle.pam_text.proofs.Texts.{alike_first, alike_short, alike_differ, alike_turn, alike_done}
 use Prim.Native.Nat.{◌-◌}
 use mathlib.Core.Path.{refl}
-use borrow.Author.Rules.{rules}
 use Rattle.pam_text.proofs.same.Goals as goal
 
 pub loop-i-init : goal.loop-i-init

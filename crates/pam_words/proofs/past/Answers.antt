@@ -1,7 +1,6 @@
 -- The definition, call by call. Assumes nothing.
 use Rattle.pam_words.specs.Words.{past_word}
 use mathlib.Core.Path.{refl}
-use borrow.Author.Rules.{rules}
 use Rattle.pam_words.proofs.past.Goals as goal
 
 pub returns : goal.returns

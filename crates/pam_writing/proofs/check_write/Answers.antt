@@ -1,7 +1,6 @@
 -- One cause after the other. Assumes nothing.
 use Rattle.pam_writing.proofs.Writing.{write_stays, write_short, write_other, write_passes}
 use mathlib.Core.Path.{sym, ◌∙◌}
-use borrow.Author.Rules.{rules}
 use Rattle.pam_writing.proofs.check_write.Goals as goal
 
 pub returns-then-wrong_length : goal.returns-then-wrong_length

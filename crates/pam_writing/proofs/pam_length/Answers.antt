@@ -2,7 +2,6 @@
 use Rattle.pam_writing.proofs.Writing.{area_most, length_stays, header_most, length_told}
 use mathlib.Core.Path.{sym}
 use native.Mathlib.Omega.{arith}
-use borrow.Author.Rules.{rules}
 use Rattle.pam_writing.proofs.pam_length.Goals as goal
 
 pub overflow_mul-result-in-Bytes : goal.overflow_mul-result-in-Bytes

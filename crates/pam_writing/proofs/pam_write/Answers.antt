@@ -3,7 +3,6 @@ use Rattle.pam_writing.proofs.Writing.{pixels_fit, part_long, file-written}
 use Rattle.pam_writing.specs.Writing.{write_out}
 use Rattle.pixels.proofs.Numbers.{buffer_refused}
 use mathlib.Core.Path.{sym, refl}
-use borrow.Author.Rules.{rules}
 use Rattle.pam_writing.proofs.pam_write.Goals as goal
 
 pub returns-in-Refused : goal.returns-in-Refused

@@ -3,7 +3,6 @@ use Prim.Native.Nat.{◌*◌}
 use mathlib.Core.Path.{sym}
 use native.Mathlib.Omega.{arith}
 use lib.ListN.{length}
-use borrow.Author.Rules.{rules}
 use Rattle.pixels.proofs.Numbers.{all_refused, all_written}
 use Rattle.pixels_alpha.specs.Alpha.{with_alpha, alpha_flag, alpha_pixels}
 use Rattle.pixels_alpha.proofs.Planes.{with_length}
@@ -33,6 +32,6 @@ returns c =
     let t = with_alpha a.layout a.pixels.now a.plane.now in
     let put = c.put_alpha.ensures in
     let both = all_written _ _ _ _ z
-        (flag_of a.layout _ t (a.size.width * a.size.height) c.has_alpha.ensures put (omega (arith, f.picture, with_length a.layout a.pixels.now a.plane.now)))
-        put in
+    (flag_of a.layout _ t (a.size.width * a.size.height) c.has_alpha.ensures put (omega (arith, f.picture, with_length a.layout a.pixels.now a.plane.now)))
+    put in
     record { number = both.0; flag = both.1.0; pixels = both.1.1 }

@@ -1,6 +1,5 @@
 -- Each return is the first cause whose test failed. Assumes nothing.
 use mathlib.Core.Path.{sym, ◌∙◌}
-use borrow.Author.Rules.{rules}
 use Rattle.pixels.proofs.Causes.{first_at, first_none}
 use Rattle.pixels_alpha.specs.Alpha.{picture_causes, picture_number}
 use Rattle.pixels_alpha.proofs.check_picture.Goals as goal

@@ -3,14 +3,12 @@ use Rattle.pixels_alpha.proofs.Flags.{clear_at, clear_none, clear_next}
 use Rattle.pixels_layout.proofs.Tabled.{place_lt}
 use Rattle.pixels_alpha.specs.Alpha.{has_alpha}
 use Rattle.pixels_layout.specs.Layout.{alpha_lane}
-use borrow.Author.Rules.{rules}
-use Rattle.pixels_alpha.specs.Alpha.{some_clear}
 use Rattle.pixels.specs.Sizes.{pixel_lanes}
 use lib.ListN.{length, get_or}
 use native.Mathlib.Omega.{arith}
 use mathlib.Core.Bool.{false}
 use mathlib.Core.Path.{◌≡◌, sym}
-use Prim.Native.Nat.{◌≤◌, ◌+◌, ◌*◌, ◌-◌, ◌/◌}
+use Prim.Native.Nat.{◌+◌, ◌*◌, ◌-◌, ◌/◌}
 use Rattle.pixels_alpha.proofs.has_alpha.Goals as goal
 
 pub loop-i-init : goal.loop-i-init

@@ -3,7 +3,6 @@ use Prim.Native.Nat.{◌*◌}
 use mathlib.Core.Path.{refl, sym}
 use native.Mathlib.Omega.{arith}
 use lib.ListN.{length}
-use borrow.Author.Rules.{rules}
 use Rattle.pixels.proofs.Numbers.{flagged_refused, flagged_accepted}
 use Rattle.pixels_alpha.specs.Alpha.{picture_flag}
 use Rattle.pixels_alpha.proofs.Flags.{flag_of}

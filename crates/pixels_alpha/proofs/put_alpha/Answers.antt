@@ -1,15 +1,13 @@
 -- The invariant, byte by byte: the pixels passed have the plane's alpha, all else stays. Assumes nothing.
-use Rattle.pixels_alpha.proofs.Planes.{partly, partly_first, partly_turn, partly_done}
+use Rattle.pixels_alpha.proofs.Planes.{partly_first, partly_turn, partly_done}
 use Rattle.pixels_layout.proofs.Tabled.{place_lt}
 use Rattle.pixels_alpha.specs.Alpha.{with_alpha}
 use Rattle.pixels_layout.specs.Layout.{alpha_lane}
 use Rattle.pixels.specs.Sizes.{pixel_lanes}
-use borrow.Author.Rules.{rules}
-use Rattle.pixels_alpha.proofs.Planes.{partly}
-use lib.ListN.{length, get_or, length-set}
+use lib.ListN.{length, length-set}
 use native.Mathlib.Omega.{arith}
 use mathlib.Core.Path.{◌≡◌, refl}
-use Prim.Native.Nat.{ℕ, ◌≤◌, ◌<◌, ◌-◌}
+use Prim.Native.Nat.{◌<◌, ◌-◌}
 use Rattle.pixels_alpha.proofs.put_alpha.Goals as goal
 
 pub loop-i-init : goal.loop-i-init

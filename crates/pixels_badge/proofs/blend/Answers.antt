@@ -1,6 +1,5 @@
 -- The two matted colours sum to at most 255. Assumes nothing.
 use native.Mathlib.Omega.{arith}
-use borrow.Author.Rules.{rules}
 use Rattle.pixels_badge.proofs.Sums.{sum_is, sum_most}
 use Rattle.pixels_badge.proofs.blend.Goals as goal
 

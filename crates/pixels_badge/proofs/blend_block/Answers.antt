@@ -2,10 +2,9 @@
 use Prim.Native.Nat.{ℕ, ◌-◌, ◌≤◌}
 use native.Mathlib.Omega.{arith}
 use native.Mathlib.Nat.{le_of_suc-le-suc}
-use lib.ListN.{length, get_or}
-use borrow.Author.Rules.{rules}
+use lib.ListN.{get_or}
 use Rattle.arithmetic.proofs.Stores.{same}
-use Rattle.pixels_badge.proofs.Blocks.{Blending, blending_first, blending_room, alphas_room, colours_room, blending_turn, blending_done}
+use Rattle.pixels_badge.proofs.Blocks.{blending_first, blending_room, alphas_room, colours_room, blending_turn, blending_done}
 use Rattle.pixels_badge.proofs.blend_block.Goals as goal
 
 pub loop-x-init : goal.loop-x-init

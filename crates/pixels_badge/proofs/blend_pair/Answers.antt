@@ -1,7 +1,5 @@
 -- Both sums are bytes, so that the number of the two fits. Assumes nothing.
-use native.Mathlib.Omega.{arith}
 use Rattle.pixels_badge.proofs.Blocks.{pair_blended}
-use borrow.Author.Rules.{rules}
 use Rattle.pixels_badge.proofs.blend_pair.Goals as goal
 
 pub returns : goal.returns

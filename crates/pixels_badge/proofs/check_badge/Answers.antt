@@ -1,11 +1,9 @@
 -- A refusal of the first two numbers is handed on; then the sizes and the alphas decide. Assumes nothing.
-use Prim.Native.Nat.{◌*◌}
-use mathlib.Core.Path.{◌≡◌, sym, ◌∙◌}
+use mathlib.Core.Path.{sym, ◌∙◌}
 use lib.ListN.{length}
 use Rattle.pixels.proofs.Causes.{first_at, first_none, first_past, first_stays}
 use Rattle.pixels_badge.specs.Badge.{both_causes, both_number, lay_causes, badge_number}
 use Rattle.pixels_badge.proofs.Fitting.{long_whole, flag_is}
-use borrow.Author.Rules.{rules}
 use Rattle.pixels_badge.proofs.check_badge.Goals as goal
 
 pub returns-in-Refused : goal.returns-in-Refused

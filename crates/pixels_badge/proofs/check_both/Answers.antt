@@ -2,7 +2,6 @@
 use mathlib.Core.Path.{sym, ◌∙◌}
 use Rattle.pixels.proofs.Causes.{first_at, first_none}
 use Rattle.pixels_badge.specs.Badge.{both_causes, both_number}
-use borrow.Author.Rules.{rules}
 use Rattle.pixels_badge.proofs.check_both.Goals as goal
 
 pub returns-then-bad_size : goal.returns-then-bad_size

@@ -1,6 +1,5 @@
 -- The bytes of the word, by the row of the table. Assumes nothing.
 use Rattle.pixels_badge.proofs.Words.{lanes_rgba, lanes_argb, lanes_bgra}
-use borrow.Author.Rules.{rules}
 use Rattle.pixels_badge.proofs.lanes_of.Goals as goal
 
 pub returns-in-Rgba8 : goal.returns-in-Rgba8

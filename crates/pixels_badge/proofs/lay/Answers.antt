@@ -5,7 +5,7 @@ use native.Mathlib.Omega.{arith}
 use native.Mathlib.Nat.{le_of_suc-le-suc}
 use lib.ListN.{get_or}
 use Rattle.arithmetic.proofs.Stores.{same}
-use Rattle.pixels_badge.proofs.LaidBlocks.{Covering, covering_first, end_after, end_more, end_inside, end_badge, turn_asks, alphas_kept, colours_kept, block_asks, covering_turn, covering_done}
+use Rattle.pixels_badge.proofs.LaidBlocks.{covering_first, end_after, end_more, end_inside, end_badge, turn_asks, alphas_kept, colours_kept, block_asks, covering_turn, covering_done}
 use Rattle.pixels_badge.proofs.lay.Goals as goal
 
 pub loop-at-init : goal.loop-at-init

@@ -1,10 +1,8 @@
 -- A refusal is handed on with its number; else the background is laid on. Assumes nothing.
-use mathlib.Core.Path.{sym, ◌∙◌}
-use lib.ListN.{length}
+use mathlib.Core.Path.{sym}
 use Rattle.pixels.proofs.Numbers.{buffer_refused, buffer_written}
 use Rattle.pixels_badge.specs.Badge.{laid, badge_out}
 use Rattle.pixels_badge.proofs.Fitting.{lay_fits}
-use borrow.Author.Rules.{rules}
 use Rattle.pixels_badge.proofs.lay_badge.Goals as goal
 
 pub returns-in-Refused : goal.returns-in-Refused

@@ -1,6 +1,5 @@
 -- The sum of the four bytes, by the row of the table. Assumes nothing.
 use Rattle.pixels_badge.proofs.Words.{opaque_rgba, opaque_argb, opaque_bgra}
-use borrow.Author.Rules.{rules}
 use Rattle.pixels_badge.proofs.opaque.Goals as goal
 
 pub returns-in-Rgba8 : goal.returns-in-Rgba8

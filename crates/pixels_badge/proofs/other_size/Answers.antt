@@ -1,5 +1,4 @@
 -- Two sides compared. Either test is the definition's. Assumes nothing.
-use mathlib.Core.Path.{sym}
 use Rattle.pixels.proofs.Truths.{differ, same}
 use Rattle.pixels_badge.proofs.other_size.Goals as goal
 

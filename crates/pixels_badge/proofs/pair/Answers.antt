@@ -1,6 +1,5 @@
 -- It joins the two bytes. Assumes nothing.
 use Rattle.pixels_badge.specs.Inner.{pair_at}
-use borrow.Author.Rules.{rules}
 use Rattle.pixels_badge.proofs.pair.Goals as goal
 
 pub returns : goal.returns

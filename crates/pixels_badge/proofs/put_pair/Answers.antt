@@ -2,7 +2,6 @@
 use native.Mathlib.Omega.{arith}
 use lib.ListN.{length-set}
 use Rattle.pixels_badge.proofs.Blocks.{pair_put}
-use borrow.Author.Rules.{rules}
 use Rattle.pixels_badge.proofs.put_pair.Goals as goal
 
 pub bounds-bytes-at-2 : goal.bounds-bytes-at-2

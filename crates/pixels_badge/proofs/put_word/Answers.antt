@@ -2,7 +2,6 @@
 use native.Mathlib.Omega.{arith}
 use lib.ListN.{length-set}
 use Rattle.pixels_badge.proofs.Words.{word_put}
-use borrow.Author.Rules.{rules}
 use Rattle.pixels_badge.proofs.put_word.Goals as goal
 
 pub bounds-bytes-at-2 : goal.bounds-bytes-at-2

@@ -2,9 +2,8 @@
 use Prim.Native.Nat.{ℕ, ◌-◌, ◌≤◌}
 use native.Mathlib.Omega.{arith}
 use native.Mathlib.Nat.{le_of_suc-le-suc}
-use lib.ListN.{length, get_or}
-use borrow.Author.Rules.{rules}
-use Rattle.pixels_badge.proofs.OpaquePixels.{Anded, and_first, and_room, and_turn, and_done}
+use lib.ListN.{get_or}
+use Rattle.pixels_badge.proofs.OpaquePixels.{and_first, and_room, and_turn, and_done}
 use Rattle.pixels_badge.proofs.some_clear.Goals as goal
 
 pub loop-x-init : goal.loop-x-init

@@ -3,10 +3,9 @@ use Prim.Native.Nat.{ℕ, ◌-◌, ◌≤◌}
 use mathlib.Core.Path.{refl}
 use native.Mathlib.Omega.{arith}
 use native.Mathlib.Nat.{le_of_suc-le-suc}
-use lib.ListN.{length, get_or}
-use borrow.Author.Rules.{rules}
+use lib.ListN.{get_or}
 use Rattle.arithmetic.proofs.Stores.{same}
-use Rattle.pixels_badge.proofs.Turning.{Turning, turning_first, turning_room, alphas_room, colours_room, turning_turn, alphas_done, colours_done}
+use Rattle.pixels_badge.proofs.Turning.{turning_first, turning_room, alphas_room, colours_room, turning_turn, alphas_done, colours_done}
 use Rattle.pixels_badge.proofs.turn.Goals as goal
 
 pub loop-at-init : goal.loop-at-init

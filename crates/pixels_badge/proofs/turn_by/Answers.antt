@@ -1,5 +1,4 @@
 -- Each arm is the loop of its two layouts. Assumes nothing.
-use borrow.Author.Rules.{rules}
 use Rattle.pixels_badge.proofs.turn_by.Goals as goal
 
 pub returns-in-Rgba8-from : goal.returns-in-Rgba8-from

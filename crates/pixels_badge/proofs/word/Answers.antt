@@ -1,6 +1,5 @@
 -- It joins the four bytes. Assumes nothing.
 use Rattle.pixels_badge.proofs.Words.{word_is}
-use borrow.Author.Rules.{rules}
 use Rattle.pixels_badge.proofs.word.Goals as goal
 
 pub returns : goal.returns

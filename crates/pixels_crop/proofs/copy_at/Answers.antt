@@ -1,12 +1,11 @@
 -- The invariant: the buffer with the source's first i bytes pasted in. Assumes nothing.
 use native.Mathlib.Numerals.{add-one}
 use mathlib.Core.List.{append_assoc}
-use borrow.Author.Rules.{rules}
-use lib.Seq.{paste, paste-zero, paste-suc, take-length}
+use lib.Seq.{paste-zero, paste-suc, take-length}
 use lib.ListN.{length, take, drop, length-set}
 use native.Mathlib.Omega.{arith}
 use mathlib.Core.Path.{◌≡◌, refl, ◌∙◌}
-use Prim.Native.Nat.{◌≤◌, ◌<◌, ◌+◌, ◌-◌}
+use Prim.Native.Nat.{◌<◌, ◌+◌, ◌-◌}
 use Rattle.pixels_crop.proofs.copy_at.Goals as goal
 
 pub loop-i-init : goal.loop-i-init

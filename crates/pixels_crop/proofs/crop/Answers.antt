@@ -3,7 +3,6 @@ use Prim.Native.Nat.{◌*◌}
 use mathlib.Core.Path.{sym}
 use native.Mathlib.Omega.{arith}
 use lib.ListN.{length}
-use borrow.Author.Rules.{rules}
 use Rattle.pixels.proofs.Numbers.{all_refused, all_written}
 use Rattle.pixels_alpha.proofs.Flags.{flag_of}
 use Rattle.pixels_crop.specs.Crop.{cropped, crop_flag, crop_out}
@@ -33,6 +32,6 @@ returns c =
     let k = cropped_length a.source a.rect a.pixels.now f.sizes f.picture in
     let copied = c.crop_into.ensures in
     let both = all_written _ _ _ _ z
-        (flag_of a.layout _ (cropped a.source a.rect a.pixels.now) (a.rect.width * a.rect.height) c.has_alpha.ensures copied (omega (arith, k)))
-        copied in
+    (flag_of a.layout _ (cropped a.source a.rect a.pixels.now) (a.rect.width * a.rect.height) c.has_alpha.ensures copied (omega (arith, k)))
+    copied in
     record { number = both.0; flag = both.1.0; out = both.1.1 }

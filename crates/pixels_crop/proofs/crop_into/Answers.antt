@@ -1,13 +1,10 @@
 -- The invariant: the windows of the rows passed, joined, then the buffer as it was. Assumes nothing.
 use Rattle.pixels_crop.proofs.Windows.{row_fits, row_part, stripe_length, rows_none, rows_turn, rows_done}
 use Rattle.pixels_crop.specs.Crop.{window_of, picture_row}
-use borrow.Author.Rules.{rules}
-use Rattle.pixels_crop.specs.Crop.{cropped_rows}
-use Rattle.pixels.specs.Sizes.{pixel_lanes, row_bytes}
-use lib.ListN.{length, drop}
+use Rattle.pixels.specs.Sizes.{pixel_lanes}
+use lib.ListN.{length}
 use native.Mathlib.Nat.{mul-le-mul_left}
 use native.Mathlib.Omega.{arith}
-use mathlib.Core.List.{◌++◌}
 use mathlib.Core.Path.{◌≡◌, refl, ap, ◌∙◌}
 use Prim.Native.Nat.{◌≤◌, ◌+◌, ◌*◌, ◌-◌}
 use Rattle.pixels_crop.proofs.crop_into.Goals as goal

@@ -4,7 +4,6 @@ use Rattle.pixels_crop.proofs.Windows.{window_outside, window_inside}
 use native.Mathlib.Omega.{arith}
 use native.Mathlib.Nat.{add-sub_cancel_left}
 use mathlib.Core.Path.{sym}
-use borrow.Author.Rules.{rules}
 use Rattle.pixels_crop.proofs.window.Goals as goal
 
 pub overflow_mul-at : goal.overflow_mul-at

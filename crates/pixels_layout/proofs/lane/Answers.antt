@@ -2,7 +2,6 @@
 use Rattle.arithmetic.specs.Matte.{lane_of}
 use native.Mathlib.Omega.{arith}
 use mathlib.Core.Path.{◌≡◌}
-use borrow.Author.Rules.{rules}
 use Rattle.pixels_layout.proofs.lane.Goals as goal
 
 pub returns-in-0 : goal.returns-in-0

@@ -1,7 +1,6 @@
 -- An entry of the table of tables: its row and its column lie within. Assumes nothing.
 use Rattle.pixels_layout.proofs.Tabled.{row_lt, place_lt}
 use native.Mathlib.Omega.{arith}
-use borrow.Author.Rules.{rules}
 use Rattle.pixels_layout.proofs.place.Goals as goal
 
 pub offset_bounds-i : goal.offset_bounds-i

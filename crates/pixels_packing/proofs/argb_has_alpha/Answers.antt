@@ -3,16 +3,14 @@ use Rattle.pixels_alpha.proofs.Flags.{clear_at, clear_none, clear_next}
 use Rattle.arithmetic.proofs.Mattes.{lane_high}
 use Rattle.pixels_alpha.specs.Alpha.{argb_has_alpha}
 use native.Mathlib.Omega.{arith}
-use Prim.Native.Nat.{◌≤◌, ◌<◌, ◌-◌, ◌^◌}
+use Prim.Native.Nat.{◌<◌, ◌-◌, ◌^◌}
 use mathlib.Core.Path.{◌≡◌, sym, ◌∙◌}
-use Rattle.pixels_alpha.specs.Alpha.{some_clear}
 use Rattle.pixels_layout.specs.Layout.{alpha_lane}
 use Rattle.arithmetic.specs.Matte.{lane_of}
 use lib.ListN.{length, get_or}
 use mathlib.Core.Bool.{false}
 use mathlib.Core.Path.{◌≡◌}
-use Prim.Native.Nat.{◌≤◌, ◌-◌}
-use borrow.Author.Rules.{rules}
+use Prim.Native.Nat.{◌-◌}
 use Rattle.pixels_packing.proofs.argb_has_alpha.Goals as goal
 
 pub loop-i-init : goal.loop-i-init

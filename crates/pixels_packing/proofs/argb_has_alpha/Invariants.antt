@@ -1,10 +1,6 @@
 -- The invariant: no pixel passed has an alpha other than 255. Assumes nothing.
-use Rattle.pixels_alpha.proofs.Flags.{clear_at, clear_none, clear_next}
-use Rattle.arithmetic.proofs.Mattes.{lane_high}
-use Rattle.pixels_alpha.specs.Alpha.{argb_has_alpha}
-use native.Mathlib.Omega.{arith}
-use Prim.Native.Nat.{◌≤◌, ◌<◌, ◌-◌, ◌^◌}
-use mathlib.Core.Path.{◌≡◌, sym, ◌∙◌}
+use Prim.Native.Nat.{◌≤◌, ◌-◌}
+use mathlib.Core.Path.{◌≡◌}
 use Rattle.pixels_alpha.specs.Alpha.{some_clear}
 use Rattle.pixels_layout.specs.Layout.{alpha_lane}
 use Rattle.arithmetic.specs.Matte.{lane_of}
@@ -12,7 +8,6 @@ use lib.ListN.{length, get_or}
 use mathlib.Core.Bool.{false}
 use mathlib.Core.Path.{◌≡◌}
 use Prim.Native.Nat.{◌≤◌, ◌-◌}
-use borrow.Author.Rules.{rules}
 use Rattle.pixels_packing.proofs.argb_has_alpha.Given as goal
 
 abbrev pub invariant-loop-i : goal.invariant-loop-i

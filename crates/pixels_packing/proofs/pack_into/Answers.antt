@@ -3,16 +3,10 @@ use Rattle.arithmetic.proofs.Stretches.{none_filled, all_filled}
 use Rattle.pixels_layout.proofs.Packing.{packed_turn, packed_length}
 use Rattle.pixels_layout.specs.Layout.{packed_pixels}
 use native.Mathlib.Omega.{arith}
-use mathlib.Core.List.{◌++◌}
 use mathlib.Core.Path.{◌≡◌, refl, ap, ◌∙◌}
-use Rattle.pixels_layout.specs.Layout.{packed_byte}
-use Rattle.pixels.specs.Sizes.{pixel_lanes}
-use Rattle.arithmetic.specs.Table.{tabulate}
-use lib.ListN.{length, get_or, drop}
-use mathlib.Core.List.{◌++◌}
+use lib.ListN.{length, get_or}
 use mathlib.Core.Path.{◌≡◌}
-use Prim.Native.Nat.{◌≤◌, ◌*◌, ◌-◌}
-use borrow.Author.Rules.{rules}
+use Prim.Native.Nat.{◌-◌}
 use Rattle.pixels_packing.proofs.pack_into.Goals as goal
 
 pub loop-i-init : goal.loop-i-init

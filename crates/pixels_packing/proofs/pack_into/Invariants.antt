@@ -1,10 +1,6 @@
 -- The invariant: the bytes of the pixels passed, then the buffer as it was. Assumes nothing.
-use Rattle.arithmetic.proofs.Stretches.{none_filled, all_filled}
-use Rattle.pixels_layout.proofs.Packing.{packed_turn, packed_length}
-use Rattle.pixels_layout.specs.Layout.{packed_pixels}
-use native.Mathlib.Omega.{arith}
 use mathlib.Core.List.{◌++◌}
-use mathlib.Core.Path.{◌≡◌, refl, ap, ◌∙◌}
+use mathlib.Core.Path.{◌≡◌}
 use Rattle.pixels_layout.specs.Layout.{packed_byte}
 use Rattle.pixels.specs.Sizes.{pixel_lanes}
 use Rattle.arithmetic.specs.Table.{tabulate}
@@ -12,7 +8,6 @@ use lib.ListN.{length, get_or, drop}
 use mathlib.Core.List.{◌++◌}
 use mathlib.Core.Path.{◌≡◌}
 use Prim.Native.Nat.{◌≤◌, ◌*◌, ◌-◌}
-use borrow.Author.Rules.{rules}
 use Rattle.pixels_packing.proofs.pack_into.Given as goal
 
 abbrev pub invariant-loop-i : goal.invariant-loop-i

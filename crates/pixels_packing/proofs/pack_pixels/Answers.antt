@@ -5,7 +5,6 @@ use Rattle.pixels.specs.declared.Refusal.TheVariants.{OutputLength}
 use Rattle.pixels_layout.specs.Layout.{pack_out}
 use lib.ListN.{length}
 use native.Mathlib.Omega.{arith}
-use borrow.Author.Rules.{rules}
 use Rattle.pixels_packing.proofs.pack_pixels.Goals as goal
 
 pub returns-then-out-ne0 : goal.returns-then-out-ne0

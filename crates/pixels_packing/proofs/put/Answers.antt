@@ -2,7 +2,6 @@
 use Rattle.arithmetic.proofs.Stretches.{put_four}
 use native.Mathlib.Omega.{arith}
 use lib.ListN.{length-set}
-use borrow.Author.Rules.{rules}
 use Rattle.pixels_packing.proofs.put.Goals as goal
 
 pub bounds-out-at-2 : goal.bounds-out-at-2

@@ -1,5 +1,5 @@
 -- The invariant: the pixels passed, then the buffer as it was. Assumes nothing.
-use Prim.Native.Nat.{◌≤◌, ◌<◌, ◌-◌, ◌/◌}
+use Prim.Native.Nat.{◌<◌, ◌-◌, ◌/◌}
 use Rattle.arithmetic.proofs.Stretches.{none_filled, all_filled}
 use Rattle.pixels_layout.proofs.Packing.{unpacked_at}
 use Rattle.pixels_layout.specs.Layout.{unpacked_pixels}
@@ -9,12 +9,9 @@ use native.Mathlib.Numerals.{add-one}
 use native.Mathlib.Omega.{arith}
 use mathlib.Core.Path.{◌≡◌, refl, ◌∙◌}
 use Rattle.pixels_layout.specs.Layout.{pixel_at}
-use Rattle.arithmetic.specs.Table.{tabulate}
-use lib.ListN.{length, drop}
-use mathlib.Core.List.{◌++◌}
+use lib.ListN.{length}
 use mathlib.Core.Path.{◌≡◌}
-use Prim.Native.Nat.{◌≤◌, ◌-◌}
-use borrow.Author.Rules.{rules}
+use Prim.Native.Nat.{◌-◌}
 use Rattle.pixels_packing.proofs.unpack_into.Goals as goal
 
 pub loop-i-init : goal.loop-i-init

@@ -1,20 +1,12 @@
 -- The invariant: the pixels passed, then the buffer as it was. Assumes nothing.
-use Prim.Native.Nat.{◌≤◌, ◌<◌, ◌-◌, ◌/◌}
-use Rattle.arithmetic.proofs.Stretches.{none_filled, all_filled}
-use Rattle.pixels_layout.proofs.Packing.{unpacked_at}
-use Rattle.pixels_layout.specs.Layout.{unpacked_pixels}
-use Rattle.arithmetic.proofs.Tables.{set_tabulate}
-use lib.ListN.{length-set}
-use native.Mathlib.Numerals.{add-one}
-use native.Mathlib.Omega.{arith}
-use mathlib.Core.Path.{◌≡◌, refl, ◌∙◌}
+use Prim.Native.Nat.{◌≤◌, ◌-◌}
+use mathlib.Core.Path.{◌≡◌}
 use Rattle.pixels_layout.specs.Layout.{pixel_at}
 use Rattle.arithmetic.specs.Table.{tabulate}
 use lib.ListN.{length, drop}
 use mathlib.Core.List.{◌++◌}
 use mathlib.Core.Path.{◌≡◌}
 use Prim.Native.Nat.{◌≤◌, ◌-◌}
-use borrow.Author.Rules.{rules}
 use Rattle.pixels_packing.proofs.unpack_into.Given as goal
 
 abbrev pub invariant-loop-i : goal.invariant-loop-i

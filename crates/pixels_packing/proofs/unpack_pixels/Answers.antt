@@ -4,7 +4,6 @@ use Rattle.pixels.proofs.Numbers.{buffer_refused, buffer_written}
 use Rattle.pixels.specs.declared.Refusal.TheVariants.{OutputLength}
 use Rattle.pixels_layout.specs.Layout.{unpack_out}
 use lib.ListN.{length}
-use borrow.Author.Rules.{rules}
 use Rattle.pixels_packing.proofs.unpack_pixels.Goals as goal
 
 pub returns-then-out-bytes : goal.returns-then-out-bytes

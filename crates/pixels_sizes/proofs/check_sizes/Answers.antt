@@ -1,7 +1,6 @@
 -- Each return is the law of `sizes_number` for the first test that failed. Assumes nothing.
 use Rattle.pixels.proofs.Fitting.{sizes_wrong, sizes_beyond, sizes_pass}
 use mathlib.Core.Path.{sym, ◌∙◌}
-use borrow.Author.Rules.{rules}
 use Rattle.pixels_sizes.proofs.check_sizes.Goals as goal
 
 pub returns-then-wrong_sizes : goal.returns-then-wrong_sizes

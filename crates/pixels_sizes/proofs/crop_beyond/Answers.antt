@@ -1,7 +1,6 @@
 -- Both edges in 64 bits, so that no sum wraps; each return is the law of `crop_outside` for the edge that failed. Assumes nothing.
 use Rattle.pixels.proofs.Fitting.{beyond_right, beyond_bottom}
 use mathlib.Core.Path.{sym}
-use borrow.Author.Rules.{rules}
 use Rattle.pixels_sizes.proofs.crop_beyond.Goals as goal
 
 pub returns-then-source-crop : goal.returns-then-source-crop

@@ -1,5 +1,4 @@
 -- A length that is no whole number of pixels is another; else the pixels are counted, so that no product is too large. Assumes nothing.
-use borrow.Author.Rules.{rules}
 use Rattle.pixels.proofs.Fitting.{ragged, pixels_alike}
 use Rattle.pixels_sizes.proofs.wrong_length.Goals as goal
 

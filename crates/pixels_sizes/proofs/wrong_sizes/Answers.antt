@@ -3,7 +3,6 @@ use Rattle.pixels.proofs.Fitting.{empty_width, wrong_source, wrong_target, wrong
 use Rattle.pixels.specs.Sizes.{empty_crop}
 use borrow.Author.Tests.{ne_eqb}
 use mathlib.Core.Path.{sym, ◌∙◌}
-use borrow.Author.Rules.{rules}
 use Rattle.pixels_sizes.proofs.wrong_sizes.Goals as goal
 
 pub returns-then-bad_size : goal.returns-then-bad_size

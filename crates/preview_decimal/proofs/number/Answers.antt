@@ -2,10 +2,8 @@
 use Prim.Native.Nat.{◌-◌}
 use mathlib.Core.Path.{sym, ◌∙◌}
 use native.Mathlib.Omega.{arith}
-use lib.ListN.{length}
-use borrow.Author.Rules.{rules}
 use borrow.Author.Tests.{not-true, not-false}
-use Rattle.preview_decimal.proofs.Reading.{Read, read_first, read_empty, read_turn, read_bad, read_large, read_done}
+use Rattle.preview_decimal.proofs.Reading.{read_first, read_empty, read_turn, read_bad, read_large, read_done}
 use Rattle.preview_decimal.proofs.number.Goals as goal
 
 pub returns-then-text-eq0 : goal.returns-then-text-eq0

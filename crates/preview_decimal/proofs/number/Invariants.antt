@@ -1,11 +1,7 @@
 -- `number` reads digit by digit: what is read so far is kept by each turn, and each way out decides the whole text. Assumes nothing.
 use Prim.Native.Nat.{◌-◌}
-use mathlib.Core.Path.{sym, ◌∙◌}
-use native.Mathlib.Omega.{arith}
 use lib.ListN.{length}
-use borrow.Author.Rules.{rules}
-use borrow.Author.Tests.{not-true, not-false}
-use Rattle.preview_decimal.proofs.Reading.{Read, read_first, read_empty, read_turn, read_bad, read_large, read_done}
+use Rattle.preview_decimal.proofs.Reading.{Read}
 use Rattle.preview_decimal.proofs.number.Given as goal
 
 abbrev pub invariant-loop-i : goal.invariant-loop-i

@@ -1,7 +1,7 @@
 -- `finish`: the kit's wrapping difference is wrap_sub. Assumes nothing.
 use Rattle.arithmetic.specs.FixedPoint.{mult}
 use Rattle.arithmetic.specs.Word.{wrap_sub}
-use Rattle.std.proofs.Common.{ℕ, ap, ◌∙◌, ap₂, arith, rules}
+use Rattle.std.proofs.Common.{ℕ, ap, ◌∙◌, ap₂, arith}
 use Rattle.arithmetic.proofs.Words.{wrap_sub_is}
 use Rattle.rows.proofs.finish.Goals as goal
 

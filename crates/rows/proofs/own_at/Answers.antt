@@ -1,5 +1,5 @@
 -- `own_at`: the table's row, and past it nothing. Assumes nothing.
-use Rattle.std.proofs.Common.{◌<◌, arith, rules}
+use Rattle.std.proofs.Common.{◌<◌, arith}
 use Rattle.rows.proofs.Tones.{own_table, own_beyond}
 use Rattle.rows.proofs.own_at.Goals as goal
 

@@ -1,5 +1,5 @@
 -- `tone`: the product of two bytes and a half fit 16 bits, and 257/65536 of it is the matte (`matte_257`). Assumes nothing.
-use Rattle.std.proofs.Common.{ℕ, sym, ap, ◌∙◌, arith, rules}
+use Rattle.std.proofs.Common.{ℕ, sym, ap, ◌∙◌, arith}
 use Rattle.arithmetic.proofs.Products.{byte_product}
 use Rattle.arithmetic.specs.Matte.{scale_colour, matte_factor}
 use Rattle.rows.specs.Tones.{toned}

@@ -1,5 +1,5 @@
 -- `add_halves`: too few work values are told; else there is room for both halves. Assumes nothing.
-use Rattle.std.proofs.Common.{length, sym, ◌∙◌, arith, rules}
+use Rattle.std.proofs.Common.{length, arith}
 use Rattle.pixels.specs.declared.Refusal.TheVariants.{WorkLength}
 use Rattle.pixels.proofs.Numbers.{buffer_refused, buffer_written}
 use Rattle.rows_adding.specs.Adding.{add_work}

@@ -1,5 +1,5 @@
 -- `add_to_first`: the first k values are sums of what stood there and in the second half, the rest is as it was. Assumes nothing.
-use Rattle.std.proofs.Common.{◌≡◌, ℕ, ◌+◌, ◌-◌, ◌<◌, List, get_or, set, ◌∙◌, ap₂, arith, rules}
+use Rattle.std.proofs.Common.{◌≡◌, ℕ, ◌+◌, ◌-◌, ◌<◌, List, get_or, set, ◌∙◌, ap₂, arith}
 use Rattle.arithmetic.specs.Word.{wrap_add}
 use Rattle.arithmetic.proofs.Stores.{Stored, none_stored, store, same, ahead, all_stored}
 use Rattle.rows.specs.WorkRows.{added}

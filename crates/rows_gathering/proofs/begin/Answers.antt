@@ -1,7 +1,6 @@
 -- `begin`: the ceiling, and what it is past the column's beginning. Assumes nothing.
 use Rattle.rows_gathering.proofs.Gathering.{begin_small, begin_low, begin_high, begin_is}
 use native.Mathlib.Omega.{arith}
-use borrow.Author.Rules.{rules}
 use Rattle.rows_gathering.proofs.begin.Goals as goal
 
 pub overflow_mul-x : goal.overflow_mul-x

@@ -1,7 +1,6 @@
 -- `block_fits`: each test that turns a block away. Assumes nothing.
 use Rattle.rows_gathering.proofs.Blocks.{block_sides, none_grows, none_large, none_long, none_past, fits_whole}
 use mathlib.Core.Path.{sym}
-use borrow.Author.Rules.{rules}
 use Rattle.rows_gathering.proofs.block_fits.Goals as goal
 
 pub returns-then-n-m : goal.returns-then-n-m

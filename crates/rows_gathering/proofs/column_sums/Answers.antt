@@ -3,7 +3,6 @@ use Rattle.rows_gathering.proofs.Pairing.{column_even, column_odd}
 use Rattle.rows_gathering.proofs.Blocks.{read_byte_lem}
 use Rattle.rows_gathering.specs.Gathered.{read_at}
 use native.Mathlib.Omega.{arith}
-use borrow.Author.Rules.{rules}
 use Rattle.rows_gathering.proofs.column_sums.Goals as goal
 
 pub returns-then-count-eq0 : goal.returns-then-count-eq0

@@ -1,5 +1,5 @@
 -- `gather`: the invariant is `Gathering`, of bytes as they are read. Assumes nothing.
-use Rattle.rows_gathering.proofs.Gathering.{Gathering, gathering_first, next_asks, column_asks, gathering_turn, gathering_done, gathered_past, gathered_pixels_lem}
+use Rattle.rows_gathering.proofs.Gathering.{gathering_first, next_asks, column_asks, gathering_turn, gathering_done, gathered_past, gathered_pixels_lem}
 use Rattle.rows_gathering.specs.Gathered.{read_at}
 use native.Mathlib.Omega.{arith}
 use Prim.Native.Nat.{◌-◌}

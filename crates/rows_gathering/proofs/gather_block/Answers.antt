@@ -5,7 +5,6 @@ use borrow.Author.Tests.{not-true, not-false}
 use native.Mathlib.Omega.{arith}
 use lib.ListN.{length}
 use mathlib.Core.Path.{sym, ◌∙◌}
-use borrow.Author.Rules.{rules}
 use Rattle.rows_gathering.proofs.gather_block.Goals as goal
 
 pub returns-then-not-block_fits : goal.returns-then-not-block_fits

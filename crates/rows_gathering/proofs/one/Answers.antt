@@ -1,5 +1,4 @@
 -- `one`: the pixel as it stands, or by its alpha. Assumes nothing.
-use borrow.Author.Rules.{rules}
 use Rattle.rows_gathering.proofs.one.Goals as goal
 
 pub returns-then-plain : goal.returns-then-plain

@@ -1,6 +1,5 @@
 -- `pairs`: bytes as they stand, or by an alpha that stands first or last. Assumes nothing.
 use Rattle.rows_gathering.proofs.Pairing.{own_last}
-use borrow.Author.Rules.{rules}
 use Rattle.rows_gathering.proofs.pairs.Goals as goal
 
 pub returns-then-plain : goal.returns-then-plain

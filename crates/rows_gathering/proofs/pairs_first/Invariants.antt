@@ -1,9 +1,6 @@
 -- `pairs_first`: the invariant is `Pairing`, of bytes toned by an alpha that stands first. Assumes nothing.
-use Rattle.rows_gathering.proofs.Pairing.{Pairing, pairing_first, limit_small, pair_asks, pairing_turn, pairing_done}
-use Rattle.rows.proofs.Tones.{toned_at_byte}
+use Rattle.rows_gathering.proofs.Pairing.{Pairing}
 use Rattle.rows.specs.Tones.{toned_at}
-use native.Mathlib.Omega.{arith}
-use borrow.Author.Rules.{rules}
 use Prim.Native.Nat.{◌+◌, ◌-◌, ◌*◌}
 use Rattle.rows_gathering.proofs.pairs_first.Given as goal
 

@@ -1,10 +1,9 @@
 -- `pairs_last`: the invariant is `Pairing`, of bytes toned by an alpha that stands last. Assumes nothing.
-use Rattle.rows_gathering.proofs.Pairing.{Pairing, pairing_first, limit_small, pair_asks, pairing_turn, pairing_done}
+use Rattle.rows_gathering.proofs.Pairing.{pairing_first, limit_small, pair_asks, pairing_turn, pairing_done}
 use Rattle.rows.proofs.Tones.{toned_at_byte}
 use Rattle.rows.specs.Tones.{toned_at}
 use native.Mathlib.Omega.{arith}
-use borrow.Author.Rules.{rules}
-use Prim.Native.Nat.{◌+◌, ◌-◌, ◌*◌}
+use Prim.Native.Nat.{◌-◌}
 use Rattle.rows_gathering.proofs.pairs_last.Goals as goal
 
 pub overflow_mul-limit : goal.overflow_mul-limit

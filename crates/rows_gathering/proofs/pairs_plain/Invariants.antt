@@ -1,9 +1,6 @@
 -- `pairs_plain`: the invariant is `Pairing`, of bytes as they stand. Assumes nothing.
-use Rattle.rows_gathering.proofs.Pairing.{Pairing, pairing_first, limit_small, pair_asks, pairing_turn, pairing_done}
-use Rattle.rows.proofs.Lanes.{byte_byte}
+use Rattle.rows_gathering.proofs.Pairing.{Pairing}
 use Rattle.rows.specs.Inner.Import.{byte_at}
-use native.Mathlib.Omega.{arith}
-use borrow.Author.Rules.{rules}
 use Prim.Native.Nat.{◌+◌, ◌-◌, ◌*◌}
 use Rattle.rows_gathering.proofs.pairs_plain.Given as goal
 

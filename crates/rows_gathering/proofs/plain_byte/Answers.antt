@@ -3,7 +3,6 @@ use Rattle.rows.specs.Inner.Import.{byte_at}
 use native.Mathlib.Omega.{arith}
 use mathlib.Core.Path.{refl}
 use Prim.Native.Nat.{◌+◌, ◌*◌}
-use borrow.Author.Rules.{rules}
 use Rattle.rows_gathering.proofs.plain_byte.Goals as goal
 
 pub overflow_cast-result : goal.overflow_cast-result

@@ -1,7 +1,6 @@
 -- `plain_pair`: the bytes of both pixels. Assumes nothing.
 use Rattle.rows_gathering.proofs.Pairing.{pair_is}
 use Rattle.rows.specs.Inner.Import.{byte_at}
-use borrow.Author.Rules.{rules}
 use Rattle.rows_gathering.proofs.plain_pair.Goals as goal
 
 pub returns : goal.returns

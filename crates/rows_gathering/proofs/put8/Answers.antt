@@ -1,5 +1,4 @@
 -- `put8`: twice four. Assumes nothing.
-use borrow.Author.Rules.{rules}
 use Rattle.rows_gathering.proofs.put8.Goals as goal
 
 pub returns : goal.returns

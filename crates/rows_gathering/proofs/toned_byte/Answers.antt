@@ -4,7 +4,6 @@ use Rattle.rows.specs.Inner.Import.{byte_at}
 use native.Mathlib.Omega.{arith}
 use lib.ListN.{get_or}
 use Prim.Native.Nat.{◌+◌, ◌*◌}
-use borrow.Author.Rules.{rules}
 use Rattle.rows_gathering.proofs.toned_byte.Goals as goal
 
 pub overflow_cast-result : goal.overflow_cast-result

@@ -3,7 +3,6 @@ use mathlib.Core.Path.{refl}
 use native.Mathlib.Omega.{arith}
 use Rattle.rows.specs.Inner.Import.{byte_at}
 use Rattle.rows_gathering.proofs.Pairing.{toned_own, own_none, toned_nothing}
-use borrow.Author.Rules.{rules}
 use Rattle.rows_gathering.proofs.toned_one.Goals as goal
 
 pub overflow_cast-q : goal.overflow_cast-q

@@ -3,7 +3,6 @@ use Prim.Native.Nat.{◌+◌}
 use Rattle.rows_gathering.proofs.Pairing.{pair_is, toned_own}
 use Rattle.rows.specs.Inner.Import.{byte_at}
 use Rattle.rows.specs.Tones.{toned_at}
-use borrow.Author.Rules.{rules}
 use Rattle.rows_gathering.proofs.toned_pair.Goals as goal
 
 pub returns : goal.returns

@@ -1,6 +1,5 @@
 -- `between`: both products and their sum (`between_of`). Assumes nothing.
 use Rattle.rows_growing.proofs.Pairs.{between_of}
-use borrow.Author.Rules.{rules}
 use Rattle.rows_growing.proofs.between.Goals as goal
 
 pub returns : goal.returns

@@ -1,7 +1,6 @@
 -- `byte`: what is read is byte_at by definition. Assumes nothing.
 use mathlib.Core.Path.{refl}
 use Rattle.rows.specs.Inner.Import.{byte_at}
-use borrow.Author.Rules.{rules}
 use Rattle.rows_growing.proofs.byte.Goals as goal
 
 pub returns : goal.returns

@@ -1,5 +1,4 @@
 -- `factor`: an or of bytes is a byte. Assumes nothing.
-use Prim.Native.Nat.{◌≤◌}
 use native.Mathlib.Omega.{arith}
 use Rattle.rows.proofs.Tones.{orred_byte, orred_small}
 use Rattle.rows_growing.proofs.factor.Goals as goal

@@ -1,6 +1,5 @@
 -- `fall_of`: the difference, times the step (`fall_of_is`). Assumes nothing.
 use Rattle.rows_growing.proofs.Pairs.{fall_of_is}
-use borrow.Author.Rules.{rules}
 use Rattle.rows_growing.proofs.fall_of.Goals as goal
 
 pub returns : goal.returns

@@ -2,7 +2,6 @@
 use native.Mathlib.Omega.{arith}
 use Rattle.rows_growing.proofs.Tones.{owns_of}
 use Rattle.rows_growing.proofs.GrownRows.{places_in, first_pixel, second_pixel, first_between, grow_asks, grown_as}
-use borrow.Author.Rules.{rules}
 use Rattle.rows_growing.proofs.grow.Goals as goal
 
 pub places-p-requires : goal.places-p-requires

@@ -1,12 +1,7 @@
 -- `grow_rgba`: column after column, by the laws of GrownRows at the places of its layout. Assumes nothing.
-use Prim.Native.Nat.{◌-◌, ◌/◌}
+use Prim.Native.Nat.{◌-◌}
 use native.Mathlib.Omega.{arith}
-use lib.ListN.{length}
-use Rattle.pixels.specs.Sizes.{pixel_lanes}
-use Rattle.pixels_layout.specs.declared.PixelLayout.TheVariants.{Rgba8}
-use Rattle.pixels_layout.specs.Layout.{places_of}
-use Rattle.rows_growing.proofs.GrownRows.{Grown, grown_first, grown_room, grown_same, grown_done, grown_on, grown_more, grown_pixel, grown_between, grown_over}
-use borrow.Author.Rules.{rules}
+use Rattle.rows_growing.proofs.GrownRows.{grown_first, grown_room, grown_same, grown_done, grown_on, grown_more, grown_pixel, grown_between, grown_over}
 use Rattle.rows_growing.proofs.grow_rgba.Goals as goal
 
 pub loop-j-init : goal.loop-j-init

@@ -2,7 +2,6 @@
 use native.Mathlib.Omega.{arith}
 use Rattle.rows_growing.proofs.Tones.{read_colour, read_alpha}
 use Rattle.rows.specs.Inner.Import.{matted_at, lane_bytes}
-use borrow.Author.Rules.{rules}
 use Rattle.rows_growing.proofs.read.Goals as goal
 
 pub returns : goal.returns

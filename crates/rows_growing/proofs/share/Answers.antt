@@ -1,6 +1,5 @@
 -- `share`: no remainder changes anything (`share_is`). Assumes nothing.
 use Rattle.rows_growing.proofs.Pairs.{share_is}
-use borrow.Author.Rules.{rules}
 use Rattle.rows_growing.proofs.share.Goals as goal
 
 pub returns : goal.returns

@@ -6,7 +6,6 @@ use Rattle.arithmetic.proofs.Products.{byte_product}
 use Rattle.arithmetic.specs.Matte.{scale_colour, matte_factor}
 use Rattle.rows.specs.Tones.{toned}
 use Rattle.rows.proofs.Tones.{matte_257}
-use borrow.Author.Rules.{rules}
 use Rattle.rows_growing.proofs.tone.Goals as goal
 
 pub overflow_mul-t : goal.overflow_mul-t

@@ -3,7 +3,6 @@ use mathlib.Core.Path.{refl, sym, ◌∙◌}
 use native.Mathlib.Omega.{arith}
 use Rattle.rows.proofs.Importing.{row_asks, by_layout}
 use Rattle.rows_growing.proofs.Widened.{widened, not_widened, turned_away}
-use borrow.Author.Rules.{rules}
 use Rattle.rows_growing.proofs.widen_row.Goals as goal
 
 pub grow-requires : goal.grow-requires

@@ -1,6 +1,5 @@
 -- Outside the crop nothing happens; inside it the window is put. Assumes nothing.
 use Rattle.rows_in.proofs.Coming.{crop_above, crop_below, crop_inside, in_beside, in_put}
-use borrow.Author.Rules.{rules}
 use Rattle.rows_in.proofs.put_source_row.Goals as goal
 
 pub returns-then-s-crop : goal.returns-then-s-crop

@@ -1,6 +1,5 @@
 -- `finish_row`: a picture's row is restored, a plane's stays. Assumes nothing.
 use mathlib.Core.Path.{refl}
-use borrow.Author.Rules.{rules}
 use Rattle.rows_out.proofs.finish_row.Goals as goal
 
 pub returns-in-Pixels : goal.returns-in-Pixels

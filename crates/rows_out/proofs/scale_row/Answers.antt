@@ -2,7 +2,6 @@
 use native.Mathlib.Omega.{arith}
 use Rattle.arithmetic.proofs.Products.{most}
 use Rattle.rows_out.proofs.ScaleRow.{scale_refused, scale_done}
-use borrow.Author.Rules.{rules}
 use Rattle.rows_out.proofs.scale_row.Goals as goal
 
 pub returns-in-Refused : goal.returns-in-Refused

@@ -1,7 +1,6 @@
 -- `span` meets its contract: the two cases of SCOPE. Assumes nothing.
 use mathlib.Core.Path.{sym}
 use Rattle.arithmetic.proofs.Weights.{span_shrink, span_grow}
-use borrow.Author.Rules.{rules}
 use Rattle.rows_out.proofs.span.Goals as goal
 
 pub returns-then-m-n : goal.returns-then-m-n

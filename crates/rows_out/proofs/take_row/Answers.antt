@@ -1,6 +1,5 @@
 -- A refusal of scaling is handed on; a row that is scaled is finished as its form asks. Assumes nothing.
 use Rattle.rows_out.proofs.Making.{out_refused, out_made}
-use borrow.Author.Rules.{rules}
 use Rattle.rows_out.proofs.take_row.Goals as goal
 
 pub returns-in-Refused : goal.returns-in-Refused

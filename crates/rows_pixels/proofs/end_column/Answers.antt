@@ -3,7 +3,6 @@ use native.Mathlib.Omega.{arith}
 use Prim.Native.Nat.{◌<◌}
 use Rattle.rows_pixels.specs.Inner.{end_value}
 use Rattle.rows_pixels.proofs.Bytes.{finished, ended_values, ended_carries, ended_lanes}
-use borrow.Author.Rules.{rules}
 use Rattle.rows_pixels.proofs.end_column.Goals as goal
 
 pub returns : goal.returns

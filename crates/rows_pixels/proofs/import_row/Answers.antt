@@ -1,7 +1,6 @@
 -- `import_row`: a row whose width grows is handed on; else a refusal with its number, or the row is written by the places of its layout. Assumes nothing.
 use mathlib.Core.Path.{◌∙◌}
 use native.Mathlib.Omega.{arith}
-use borrow.Author.Rules.{rules}
 use Rattle.rows.proofs.Importing.{import_kept, row_asks, by_layout}
 use Rattle.rows_growing.proofs.Widened.{widened}
 use Rattle.rows_pixels.proofs.import_row.Goals as goal

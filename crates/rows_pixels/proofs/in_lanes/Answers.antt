@@ -1,6 +1,5 @@
 -- `in_lanes`: an array of four read at places below four. Assumes nothing.
 use Rattle.rows_pixels.proofs.Bytes.{four_of}
-use borrow.Author.Rules.{rules}
 use Rattle.rows_pixels.proofs.in_lanes.Goals as goal
 
 pub returns : goal.returns

@@ -1,7 +1,6 @@
 -- `next_stand`: one pixel more where the parts left over do not reach. Assumes nothing.
 use native.Mathlib.Omega.{arith}
 use Rattle.rows.proofs.NextColumn.{next_longer, next_even, each_small}
-use borrow.Author.Rules.{rules}
 use Rattle.rows_pixels.proofs.next_stand.Goals as goal
 
 pub overflow_add-result : goal.overflow_add-result

@@ -1,9 +1,7 @@
 -- `one`: what is read is tonedAt by definition. Assumes nothing.
-use Prim.Native.Nat.{ℕ}
 use mathlib.Core.Path.{ap, ◌∙◌}
 use Rattle.rows.specs.Inner.Import.{byte_at}
 use Rattle.rows.specs.Tones.{toned, toned_at}
-use borrow.Author.Rules.{rules}
 use Rattle.rows_pixels.proofs.one.Goals as goal
 
 pub returns : goal.returns

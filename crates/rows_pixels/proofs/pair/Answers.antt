@@ -1,6 +1,5 @@
 -- `pair`: two sums of 16 bits. Assumes nothing.
 use native.Mathlib.Omega.{arith}
-use borrow.Author.Rules.{rules}
 use Rattle.rows_pixels.proofs.pair.Goals as goal
 
 pub overflow_cast-result : goal.overflow_cast-result

@@ -1,7 +1,6 @@
 -- `put4`: four stores within the half. Assumes nothing.
 use native.Mathlib.Omega.{arith}
 use lib.ListN.{length-set}
-use borrow.Author.Rules.{rules}
 use Rattle.rows_pixels.proofs.put4.Goals as goal
 
 pub bounds-half-i-2 : goal.bounds-half-i-2

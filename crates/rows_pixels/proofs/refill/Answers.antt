@@ -1,7 +1,6 @@
 -- `refill`: a block is summed where its first column stands; else the sums are ready. Assumes nothing.
 use native.Mathlib.Omega.{arith}
 use Rattle.rows_pixels.proofs.Blocks.{filled_by_lem}
-use borrow.Author.Rules.{rules}
 use Rattle.rows_pixels.proofs.refill.Goals as goal
 
 pub returns-then-j-eq0 : goal.returns-then-j-eq0

@@ -1,10 +1,8 @@
 -- `shrink_blocks`: the invariant is `Standing`, and that the sums are those of the block that the column is in. Assumes nothing.
-use Prim.Native.Nat.{◌-◌, ◌%◌, ◌<◌}
+use Prim.Native.Nat.{◌-◌}
 use native.Mathlib.Omega.{arith}
-use Rattle.rows_pixels.specs.Inner.{Ready}
-use Rattle.rows_pixels.proofs.Standing.{Standing, standing_first, standing_next, standing_last, standing_end, standing_more, standing_done, standing_length, inside}
+use Rattle.rows_pixels.proofs.Standing.{standing_first, standing_next, standing_last, standing_end, standing_more, standing_done, standing_length, inside}
 use Rattle.rows_pixels.proofs.Blocks.{apart_of, fill_asks, ready_in, filled_out, ready_first, ready_next, filled_column, column_pairs, column_pixels}
-use borrow.Author.Rules.{rules}
 use Rattle.rows_pixels.proofs.shrink_blocks.Goals as goal
 
 pub overflow_cast-m : goal.overflow_cast-m
@@ -74,8 +72,7 @@ loop-j-preserved c =
     let v = c.loop-j.invariant.0 in
     let w = c.next_stand-s.ensures in
     let below = c.loop-j-test.true in
-    let f = filled_out c.requires.block_asks c.refill.ensures in
-    (
+    let f = filled_out c.requires.block_asks c.refill.ensures in (
       standing_more c.requires.row_asks c.requires.block_asks.shrinks v w below (apart_of c.args.layout c.args.p c.requires.block_asks.places) c.frac-scale.ensures
           c.add4-total.ensures (column_pixels v w (filled_column _ f below c.both.ensures)) c.one-last.ensures c.end_column-carry.ensures.carry c.end_column-carry.ensures.half,
       ready_next _ f,

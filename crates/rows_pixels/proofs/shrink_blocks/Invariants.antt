@@ -1,10 +1,7 @@
 -- `shrink_blocks`: the invariant is `Standing`, and that the sums are those of the block that the column is in. Assumes nothing.
-use Prim.Native.Nat.{◌-◌, ◌%◌, ◌<◌}
-use native.Mathlib.Omega.{arith}
+use Prim.Native.Nat.{◌-◌}
 use Rattle.rows_pixels.specs.Inner.{Ready}
-use Rattle.rows_pixels.proofs.Standing.{Standing, standing_first, standing_next, standing_last, standing_end, standing_more, standing_done, standing_length, inside}
-use Rattle.rows_pixels.proofs.Blocks.{apart_of, fill_asks, ready_in, filled_out, ready_first, ready_next, filled_column, column_pairs, column_pixels}
-use borrow.Author.Rules.{rules}
+use Rattle.rows_pixels.proofs.Standing.{Standing}
 use Rattle.rows_pixels.proofs.shrink_blocks.Given as goal
 
 abbrev pub invariant-loop-j : goal.invariant-loop-j

@@ -6,8 +6,7 @@ use native.Mathlib.Omega.{arith}
 use Rattle.arithmetic.specs.Sum.{sum}
 use Rattle.rows.specs.Tones.{toned_at}
 use Rattle.rows.specs.declared.Quad.{Quad}
-use Rattle.rows_pixels.proofs.Standing.{Standing, standing_first, standing_next, standing_asks, standing_total, standing_last, standing_end, standing_more, standing_done, standing_length}
-use borrow.Author.Rules.{rules}
+use Rattle.rows_pixels.proofs.Standing.{standing_first, standing_next, standing_asks, standing_total, standing_last, standing_end, standing_more, standing_done, standing_length}
 use Rattle.rows_pixels.proofs.shrink_pixels.Goals as goal
 
 -- the sums of `count` pixels from x on

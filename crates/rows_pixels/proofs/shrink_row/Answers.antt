@@ -1,7 +1,6 @@
 -- `shrink_row`: every way writes the row. Assumes nothing.
 use borrow.Author.Tests.{leb-false}
 use Rattle.rows_pixels.proofs.Blocks.{apart_of, block_asks}
-use borrow.Author.Rules.{rules}
 use Rattle.rows_pixels.proofs.shrink_row.Goals as goal
 
 pub nonzero_div-each : goal.nonzero_div-each

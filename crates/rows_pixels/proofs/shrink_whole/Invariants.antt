@@ -1,10 +1,8 @@
 -- `shrink_whole`: the invariant is `Standing` with nothing carried, and that the sums are those of the block that the column is in. Assumes nothing.
-use Prim.Native.Nat.{◌-◌, ◌*◌, ◌/◌, ◌%◌, ◌<◌}
-use native.Mathlib.Omega.{arith}
+use Prim.Native.Nat.{◌-◌, ◌*◌, ◌/◌}
 use Rattle.rows_pixels.specs.Inner.{Ready}
-use Rattle.rows_pixels.proofs.Standing.{Standing, standing_end, standing_done, standing_length}
-use Rattle.rows_pixels.proofs.Blocks.{apart_of, fill_asks, ready_in, filled_out, ready_first, ready_next, filled_column, nothing, whole_first, whole_pairs, whole_end, whole_more}
-use borrow.Author.Rules.{rules}
+use Rattle.rows_pixels.proofs.Standing.{Standing}
+use Rattle.rows_pixels.proofs.Blocks.{nothing}
 use Rattle.rows_pixels.proofs.shrink_whole.Given as goal
 
 abbrev pub invariant-loop-j : goal.invariant-loop-j

@@ -1,6 +1,5 @@
 -- `toned_byte`: what is read is byte_at by definition. Assumes nothing.
 use Rattle.rows.specs.Inner.Import.{byte_at}
-use borrow.Author.Rules.{rules}
 use Rattle.rows_pixels.proofs.toned_byte.Goals as goal
 
 pub returns : goal.returns

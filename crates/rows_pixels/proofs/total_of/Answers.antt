@@ -1,7 +1,7 @@
 -- `total_of`: the invariant is `Totalled`. Assumes nothing.
 use Prim.Native.Nat.{◌-◌}
 use native.Mathlib.Omega.{arith}
-use Rattle.rows_pixels.proofs.Bytes.{Totalled, totalled_first, totalled_pixel, totalled_more, totalled_done}
+use Rattle.rows_pixels.proofs.Bytes.{totalled_first, totalled_pixel, totalled_more, totalled_done}
 use Rattle.rows_pixels.proofs.total_of.Goals as goal
 
 pub add4-total-requires : goal.add4-total-requires

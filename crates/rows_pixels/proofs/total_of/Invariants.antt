@@ -1,7 +1,6 @@
 -- `total_of`: the invariant is `Totalled`. Assumes nothing.
 use Prim.Native.Nat.{◌-◌}
-use native.Mathlib.Omega.{arith}
-use Rattle.rows_pixels.proofs.Bytes.{Totalled, totalled_first, totalled_pixel, totalled_more, totalled_done}
+use Rattle.rows_pixels.proofs.Bytes.{Totalled}
 use Rattle.rows_pixels.proofs.total_of.Given as goal
 
 abbrev pub invariant-loop-x : goal.invariant-loop-x

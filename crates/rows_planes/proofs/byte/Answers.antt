@@ -1,5 +1,5 @@
 -- `byte`: what is read is a byte. Assumes nothing.
-use Rattle.std.proofs.Common.{arith, rules}
+use Rattle.std.proofs.Common.{arith}
 use Rattle.rows_planes.proofs.byte.Goals as goal
 
 pub overflow_cast-result : goal.overflow_cast-result

@@ -1,5 +1,5 @@
 -- `import_plane_row`: a row whose width grows is handed on; else a refusal with its number, or the row's bytes are written. Assumes nothing.
-use Rattle.std.proofs.Common.{sym, ◌∙◌, arith, rules}
+use Rattle.std.proofs.Common.{sym, ◌∙◌, arith}
 use Rattle.pixels.proofs.Numbers.{buffer_refused}
 use Rattle.rows_widening.proofs.RowBytes.{row_asks, by_bytes}
 use Rattle.rows_planes.specs.Planes.{plane_half}

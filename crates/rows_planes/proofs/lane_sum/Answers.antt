@@ -1,6 +1,6 @@
 -- `lane_sum`: the invariant is `Summing`; the pixels that make no four are added one by one. Assumes nothing.
-use Rattle.std.proofs.Common.{◌-◌, mul-le-mul, arith, rules}
-use Rattle.rows_planes.proofs.Summing.{Summing, summing_first, summing_inside, summing_small, summing_one, summing_three, summing_four, summing_done}
+use Rattle.std.proofs.Common.{◌-◌, mul-le-mul, arith}
+use Rattle.rows_planes.proofs.Summing.{summing_first, summing_inside, summing_small, summing_one, summing_three, summing_four, summing_done}
 use Rattle.rows_planes.proofs.lane_sum.Goals as goal
 
 pub overflow_mul-p : goal.overflow_mul-p

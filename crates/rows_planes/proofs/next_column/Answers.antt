@@ -1,5 +1,5 @@
 -- `next_column`: one pixel more where the parts left over do not reach. Assumes nothing.
-use Rattle.std.proofs.Common.{arith, rules}
+use Rattle.std.proofs.Common.{arith}
 use Rattle.rows.proofs.NextColumn.{next_longer, next_even, each_small}
 use Rattle.rows_planes.proofs.next_column.Goals as goal
 

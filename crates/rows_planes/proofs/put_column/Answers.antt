@@ -1,9 +1,9 @@
 -- `put_column`: a lane a turn; the carries of the lanes passed are the next column's. Assumes nothing.
-use Rattle.std.proofs.Common.{◌≡◌, ℕ, suc, ◌+◌, ◌-◌, ◌*◌, ◌<◌, ◌≤◌, List, length, get_or, set, sym, refl, ap, ◌∙◌, ap₂, mul-le-mul, mul-le-mul_left, add-one, arith, rules}
+use Rattle.std.proofs.Common.{◌≡◌, ℕ, ◌+◌, ◌-◌, ◌*◌, ◌<◌, ◌≤◌, List, length, get_or, set, refl, ap, ◌∙◌, ap₂, mul-le-mul, mul-le-mul_left, add-one, arith}
 use Rattle.arithmetic.specs.Word.{wrap_add, wrap_sub, wrap_mul}
 use Rattle.arithmetic.specs.FixedPoint.{mult}
 use Rattle.arithmetic.specs.Sum.{sum}
-use Rattle.arithmetic.proofs.Stores.{Stored, none_stored, store, same, ahead, all_stored}
+use Rattle.arithmetic.proofs.Stores.{none_stored, store, ahead, all_stored}
 use Rattle.rows.specs.Column.{Finished}
 use Rattle.rows_widening.specs.Inner.{byte_of, set_all}
 use Rattle.rows_planes.specs.Inner.{SumAsks, column_value, column_carry, PutAsks}

@@ -1,13 +1,8 @@
 -- `put_column`: a lane a turn; the carries of the lanes passed are the next column's. Assumes nothing.
-use Rattle.std.proofs.Common.{◌≡◌, ℕ, suc, ◌+◌, ◌-◌, ◌*◌, ◌<◌, ◌≤◌, List, length, get_or, set, sym, refl, ap, ◌∙◌, ap₂, mul-le-mul, mul-le-mul_left, add-one, arith, rules}
-use Rattle.arithmetic.specs.Word.{wrap_add, wrap_sub, wrap_mul}
-use Rattle.arithmetic.specs.FixedPoint.{mult}
-use Rattle.arithmetic.specs.Sum.{sum}
-use Rattle.arithmetic.proofs.Stores.{Stored, none_stored, store, same, ahead, all_stored}
-use Rattle.rows.specs.Column.{Finished}
-use Rattle.rows_widening.specs.Inner.{byte_of, set_all}
-use Rattle.rows_planes.specs.Inner.{SumAsks, column_value, column_carry, PutAsks}
-use Rattle.rows_widening.proofs.Storing.{set_all_none, set_all_more, set_all_length}
+use Rattle.std.proofs.Common.{◌≡◌, ℕ, ◌-◌, List}
+use Rattle.arithmetic.proofs.Stores.{Stored}
+use Rattle.rows_widening.specs.Inner.{set_all}
+use Rattle.rows_planes.specs.Inner.{column_value, column_carry}
 use Rattle.rows_planes.proofs.put_column.Given as goal
 
 pub record Inv (s : List ℕ) (lanes m scale from to over : ℕ) (carry₀ half₀ : List ℕ) (at : ℕ) (carry half : List ℕ) (k : ℕ) : Type 0 where

@@ -1,5 +1,5 @@
 -- `shrink`: one lane, or several. Assumes nothing.
-use Rattle.std.proofs.Common.{◌≡◌, sym, rules}
+use Rattle.std.proofs.Common.{sym}
 use Rattle.rows_planes.proofs.shrink.Goals as goal
 
 pub shrink_lane-requires : goal.shrink_lane-requires

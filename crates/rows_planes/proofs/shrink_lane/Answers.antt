@@ -1,10 +1,10 @@
 -- `shrink_lane`: column after column of one lane; x pixels are used and reach `over` parts past the columns made. Assumes nothing.
-use Rattle.std.proofs.Common.{◌≡◌, ℕ, ◌+◌, ◌-◌, ◌*◌, ◌/◌, ◌%◌, ◌<◌, ◌≤◌, ◌⊎◌, List, get_or, set, sym, refl, ap, ◌∙◌, inl, inr, ⊎_elim, mod-lt, add-one, arith, rules}
+use Rattle.std.proofs.Common.{◌≡◌, ℕ, ◌+◌, ◌-◌, ◌*◌, ◌/◌, ◌%◌, ◌<◌, ◌≤◌, ◌⊎◌, List, get_or, set, sym, refl, ap, ◌∙◌, inl, inr, mod-lt, add-one, arith}
 use Rattle.arithmetic.proofs.Orders.{le_or_lt}
 use native.Mathlib.Nat.{div-add-mod}
 use Rattle.arithmetic.specs.Word.{wrap_add}
 use Rattle.arithmetic.specs.FixedPoint.{frac}
-use Rattle.arithmetic.proofs.Stores.{Stored, none_stored, store, same, all_stored}
+use Rattle.arithmetic.proofs.Stores.{none_stored, store, same, all_stored}
 use Rattle.rows.specs.Column as column
 use Rattle.rows.specs.Column.{Finished}
 use Rattle.rows.specs.Lanes.{row_value}
@@ -15,7 +15,7 @@ use Rattle.rows_widening.specs.Inner.{byte_of, RowAsks, row_written}
 use Rattle.rows.specs.Inner.NextColumn.{NextAsks, NextIs}
 use Rattle.rows_planes.specs.Inner.{SumAsks}
 use Rattle.rows_widening.proofs.RowBytes.{byte_of_byte, one_byte}
-use Rattle.rows.proofs.NextColumn.{LaneMade, lane_made, each_small, column_inside, next_longer, next_even}
+use Rattle.rows.proofs.NextColumn.{LaneMade, lane_made, column_inside, next_longer, next_even}
 use Rattle.rows_planes.proofs.LaneColumns.{Reads, reads_longer, reads_even}
 use Rattle.rows_planes.proofs.shrink_lane.Invariants.{Inv}
 use Rattle.rows_planes.proofs.shrink_lane.Goals as goal
@@ -136,12 +136,12 @@ overflow_sub-over c =
     let total = c.wrapping_add_u32-sum.ensures.value ∙ ap (wrap_add c.loop-j.carry) c.lane_sum.ensures in
     let t = c.if-over-rest in
     let reads : Reads (byte_of 1 s 0) c.args.n c.args.m (c.args.n % c.args.m) c.loop-j.x c.loop-j.over c.loop-j.carry t.x t.over t.sum =
-        elim t.branch [
-          then-over-rest w ↦
-              reads_longer (byte_of 1 s 0) sums c.loop-j.carry _ total w.if-over-rest.true w.byte.result t.sum t.x t.over (one_byte s _ _ w.byte.ensures.is)
-              (w.sum-is ∙ w.wrapping_add_u32-sum-then-over-rest.ensures.value) w.x-is w.over-is
-        | else-over-rest w ↦ reads_even (byte_of 1 s 0) sums c.loop-j.carry _ total w.if-over-rest.false t.sum t.x t.over w.sum-is w.x-is w.over-is
-        ] in
+    elim t.branch [
+      | then-over-rest w ↦
+          reads_longer (byte_of 1 s 0) sums c.loop-j.carry _ total w.if-over-rest.true w.byte.result t.sum t.x t.over (one_byte s _ _ w.byte.ensures.is)
+          (w.sum-is ∙ w.wrapping_add_u32-sum-then-over-rest.ensures.value) w.x-is w.over-is
+      | else-over-rest w ↦ reads_even (byte_of 1 s 0) sums c.loop-j.carry _ total w.if-over-rest.false t.sum t.x t.over w.sum-is w.x-is w.over-is
+    ] in
     reads.reach
 
 pub overflow_cast-over : goal.overflow_cast-over
@@ -152,12 +152,12 @@ overflow_cast-over c =
     let total = c.wrapping_add_u32-sum.ensures.value ∙ ap (wrap_add c.loop-j.carry) c.lane_sum.ensures in
     let t = c.if-over-rest in
     let reads : Reads (byte_of 1 s 0) c.args.n c.args.m (c.args.n % c.args.m) c.loop-j.x c.loop-j.over c.loop-j.carry t.x t.over t.sum =
-        elim t.branch [
-          then-over-rest w ↦
-              reads_longer (byte_of 1 s 0) sums c.loop-j.carry _ total w.if-over-rest.true w.byte.result t.sum t.x t.over (one_byte s _ _ w.byte.ensures.is)
-              (w.sum-is ∙ w.wrapping_add_u32-sum-then-over-rest.ensures.value) w.x-is w.over-is
-        | else-over-rest w ↦ reads_even (byte_of 1 s 0) sums c.loop-j.carry _ total w.if-over-rest.false t.sum t.x t.over w.sum-is w.x-is w.over-is
-        ] in
+    elim t.branch [
+      | then-over-rest w ↦
+          reads_longer (byte_of 1 s 0) sums c.loop-j.carry _ total w.if-over-rest.true w.byte.result t.sum t.x t.over (one_byte s _ _ w.byte.ensures.is)
+          (w.sum-is ∙ w.wrapping_add_u32-sum-then-over-rest.ensures.value) w.x-is w.over-is
+      | else-over-rest w ↦ reads_even (byte_of 1 s 0) sums c.loop-j.carry _ total w.if-over-rest.false t.sum t.x t.over w.sum-is w.x-is w.over-is
+    ] in
     omega (arith, reads.next_is.over_small, c.requires.row_asks.m_small)
 
 pub overflow_sub-x : goal.overflow_sub-x
@@ -170,12 +170,12 @@ overflow_sub-x c =
     let total = c.wrapping_add_u32-sum.ensures.value ∙ ap (wrap_add c.loop-j.carry) c.lane_sum.ensures in
     let t = c.if-over-rest in
     let reads : Reads (byte_of 1 s 0) c.args.n c.args.m (c.args.n % c.args.m) c.loop-j.x c.loop-j.over c.loop-j.carry t.x t.over t.sum =
-        elim t.branch [
-          then-over-rest w ↦
-              reads_longer (byte_of 1 s 0) sums c.loop-j.carry _ total w.if-over-rest.true w.byte.result t.sum t.x t.over (one_byte s _ _ w.byte.ensures.is)
-              (w.sum-is ∙ w.wrapping_add_u32-sum-then-over-rest.ensures.value) w.x-is w.over-is
-        | else-over-rest w ↦ reads_even (byte_of 1 s 0) sums c.loop-j.carry _ total w.if-over-rest.false t.sum t.x t.over w.sum-is w.x-is w.over-is
-        ] in
+    elim t.branch [
+      | then-over-rest w ↦
+          reads_longer (byte_of 1 s 0) sums c.loop-j.carry _ total w.if-over-rest.true w.byte.result t.sum t.x t.over (one_byte s _ _ w.byte.ensures.is)
+          (w.sum-is ∙ w.wrapping_add_u32-sum-then-over-rest.ensures.value) w.x-is w.over-is
+      | else-over-rest w ↦ reads_even (byte_of 1 s 0) sums c.loop-j.carry _ total w.if-over-rest.false t.sum t.x t.over w.sum-is w.x-is w.over-is
+    ] in
     some asks no-wider c.loop-j.invariant c.loop-j-test.true _ _ refl refl reads
 
 pub byte-requires-in-loop-j : goal.byte-requires-in-loop-j
@@ -190,12 +190,12 @@ byte-requires-in-loop-j c =
     let total = c.wrapping_add_u32-sum.ensures.value ∙ ap (wrap_add c.loop-j.carry) c.lane_sum.ensures in
     let t = c.if-over-rest in
     let reads : Reads (byte_of 1 s 0) c.args.n c.args.m (c.args.n % c.args.m) c.loop-j.x c.loop-j.over c.loop-j.carry t.x t.over t.sum =
-        elim t.branch [
-          then-over-rest w ↦
-              reads_longer (byte_of 1 s 0) sums c.loop-j.carry _ total w.if-over-rest.true w.byte.result t.sum t.x t.over (one_byte s _ _ w.byte.ensures.is)
-              (w.sum-is ∙ w.wrapping_add_u32-sum-then-over-rest.ensures.value) w.x-is w.over-is
-        | else-over-rest w ↦ reads_even (byte_of 1 s 0) sums c.loop-j.carry _ total w.if-over-rest.false t.sum t.x t.over w.sum-is w.x-is w.over-is
-        ] in
+    elim t.branch [
+      | then-over-rest w ↦
+          reads_longer (byte_of 1 s 0) sums c.loop-j.carry _ total w.if-over-rest.true w.byte.result t.sum t.x t.over (one_byte s _ _ w.byte.ensures.is)
+          (w.sum-is ∙ w.wrapping_add_u32-sum-then-over-rest.ensures.value) w.x-is w.over-is
+      | else-over-rest w ↦ reads_even (byte_of 1 s 0) sums c.loop-j.carry _ total w.if-over-rest.false t.sum t.x t.over w.sum-is w.x-is w.over-is
+    ] in
     omega (arith, some asks no-wider inv more _ _ refl refl reads, in_row asks no-wider inv more _ _ refl refl reads, asks.whole)
 
 pub bounds-half-j : goal.bounds-half-j
@@ -219,12 +219,12 @@ loop-j-preserved c =
     let total = c.wrapping_add_u32-sum.ensures.value ∙ ap (wrap_add c.loop-j.carry) c.lane_sum.ensures in
     let t = c.if-over-rest in
     let reads : Reads (byte_of 1 s 0) c.args.n c.args.m (c.args.n % c.args.m) c.loop-j.x c.loop-j.over c.loop-j.carry t.x t.over t.sum =
-        elim t.branch [
-          then-over-rest w ↦
-              reads_longer (byte_of 1 s 0) sums c.loop-j.carry _ total w.if-over-rest.true w.byte.result t.sum t.x t.over (one_byte s _ _ w.byte.ensures.is)
-              (w.sum-is ∙ w.wrapping_add_u32-sum-then-over-rest.ensures.value) w.x-is w.over-is
-        | else-over-rest w ↦ reads_even (byte_of 1 s 0) sums c.loop-j.carry _ total w.if-over-rest.false t.sum t.x t.over w.sum-is w.x-is w.over-is
-        ] in
+    elim t.branch [
+      | then-over-rest w ↦
+          reads_longer (byte_of 1 s 0) sums c.loop-j.carry _ total w.if-over-rest.true w.byte.result t.sum t.x t.over (one_byte s _ _ w.byte.ensures.is)
+          (w.sum-is ∙ w.wrapping_add_u32-sum-then-over-rest.ensures.value) w.x-is w.over-is
+      | else-over-rest w ↦ reads_even (byte_of 1 s 0) sums c.loop-j.carry _ total w.if-over-rest.false t.sum t.x t.over w.sum-is w.x-is w.over-is
+    ] in
     turn asks no-wider inv more _ _ refl refl reads _ _ _ _ c.frac-scale.ensures c.byte-in-loop-j.ensures.is c.finish-e.ensures
 
 pub shape_of-half : goal.shape_of-half

@@ -1,13 +1,12 @@
 -- `shrink_lanes`: column after column; `to` pixels are used and reach `over` parts past the columns made. Assumes nothing.
-use Rattle.std.proofs.Common.{◌≡◌, ℕ, suc, ◌+◌, ◌-◌, ◌*◌, ◌/◌, ◌%◌, ◌<◌, ◌≤◌, List, ◌++◌, length, get_or, drop, replicate, sym, refl, ap, ◌∙◌, mod-lt, mul-le-mul, mul-le-mul_left, mul-zero, add-one, arith, length-append, rules}
+use Rattle.std.proofs.Common.{◌≡◌, ℕ, suc, ◌+◌, ◌-◌, ◌*◌, ◌/◌, ◌%◌, ◌<◌, ◌≤◌, List, ◌++◌, get_or, drop, replicate, sym, refl, ap, ◌∙◌, mod-lt, mul-le-mul, mul-le-mul_left, mul-zero, add-one, arith, length-append}
 use native.Mathlib.Nat.{div-add-mod}
 use lib.ListN.{get_or-replicate}
 use Rattle.arithmetic.specs.FixedPoint.{frac}
 use Rattle.arithmetic.specs.Table.{tabulate}
 use Rattle.arithmetic.proofs.Tables.{length_tabulate, get_d_table}
-use Rattle.arithmetic.proofs.Stores.{Stored, none_stored, place, same, all_stored}
+use Rattle.arithmetic.proofs.Stores.{none_stored, place, same, all_stored}
 use Rattle.rows.specs.Column as column
-use Rattle.rows.specs.Lanes.{row_value}
 use Rattle.rows.proofs.Columns.{made_next}
 use Rattle.rows.proofs.Lanes.{row_value_lem}
 use Rattle.rows_widening.specs.Inner.{byte_of, set_all, RowAsks, row_written}

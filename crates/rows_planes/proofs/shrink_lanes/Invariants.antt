@@ -1,21 +1,9 @@
 -- `shrink_lanes`: column after column; `to` pixels are used and reach `over` parts past the columns made. Assumes nothing.
-use Rattle.std.proofs.Common.{◌≡◌, ℕ, suc, ◌+◌, ◌-◌, ◌*◌, ◌/◌, ◌%◌, ◌<◌, ◌≤◌, List, ◌++◌, length, get_or, drop, replicate, sym, refl, ap, ◌∙◌, mod-lt, mul-le-mul, mul-le-mul_left, mul-zero, add-one, arith, length-append, rules}
-use native.Mathlib.Nat.{div-add-mod}
-use lib.ListN.{get_or-replicate}
-use Rattle.arithmetic.specs.FixedPoint.{frac}
-use Rattle.arithmetic.specs.Table.{tabulate}
-use Rattle.arithmetic.proofs.Tables.{length_tabulate, get_d_table}
-use Rattle.arithmetic.proofs.Stores.{Stored, none_stored, place, same, all_stored}
+use Rattle.std.proofs.Common.{◌≡◌, ℕ, ◌+◌, ◌-◌, ◌*◌, ◌<◌, ◌≤◌, List, length, get_or}
+use Rattle.arithmetic.proofs.Stores.{Stored}
 use Rattle.rows.specs.Column as column
 use Rattle.rows.specs.Lanes.{row_value}
-use Rattle.rows.proofs.Columns.{made_next}
-use Rattle.rows.proofs.Lanes.{row_value_lem}
-use Rattle.rows_widening.specs.Inner.{byte_of, set_all, RowAsks, row_written}
-use Rattle.rows.specs.Inner.NextColumn.{NextAsks, NextIs}
-use Rattle.rows_planes.specs.Inner.{column_value, column_carry, PutAsks}
-use Rattle.rows_widening.proofs.Storing.{stored_all}
-use Rattle.rows_widening.proofs.RowBytes.{byte_of_byte}
-use Rattle.rows.proofs.NextColumn.{LaneMade, lane_made, column_inside}
+use Rattle.rows_widening.specs.Inner.{byte_of}
 use Rattle.rows_planes.proofs.shrink_lanes.Given as goal
 
 pub record Inv (s : List ℕ) (lanes n m : ℕ) (half₀ half carry : List ℕ) (to over j : ℕ) : Type 0 where

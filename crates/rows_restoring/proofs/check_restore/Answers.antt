@@ -4,7 +4,6 @@ use Rattle.rows_restoring.specs.Restoring.{restore_causes, restore_number}
 use Rattle.pixels.proofs.Causes.{first_at}
 use Rattle.pixels.proofs.Truths.{differ}
 use mathlib.Core.Path.{sym, ◌∙◌}
-use borrow.Author.Rules.{rules}
 use Rattle.rows_restoring.proofs.check_restore.Goals as goal
 
 pub returns-then-bad_side : goal.returns-then-bad_side

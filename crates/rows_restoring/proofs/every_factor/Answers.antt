@@ -1,8 +1,7 @@
 -- `every_factor` meets its contract: the lent factors, between those of alpha 0 and 255. Assumes nothing.
-use Prim.Native.Nat.{◌+◌, ◌-◌, ◌≤◌}
+use Prim.Native.Nat.{◌-◌}
 use native.Mathlib.Omega.{arith}
-use borrow.Author.Rules.{rules}
-use Rattle.rows_restoring.proofs.EveryFactor.{Laid, lay_first, lay_turn, lay_last}
+use Rattle.rows_restoring.proofs.EveryFactor.{lay_first, lay_turn, lay_last}
 use Rattle.rows_restoring.proofs.every_factor.Goals as goal
 
 pub loop-i-init : goal.loop-i-init

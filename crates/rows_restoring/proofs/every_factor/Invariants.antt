@@ -1,8 +1,6 @@
 -- `every_factor` meets its contract: the lent factors, between those of alpha 0 and 255. Assumes nothing.
-use Prim.Native.Nat.{◌+◌, ◌-◌, ◌≤◌}
-use native.Mathlib.Omega.{arith}
-use borrow.Author.Rules.{rules}
-use Rattle.rows_restoring.proofs.EveryFactor.{Laid, lay_first, lay_turn, lay_last}
+use Prim.Native.Nat.{◌-◌, ◌≤◌}
+use Rattle.rows_restoring.proofs.EveryFactor.{Laid}
 use Rattle.rows_restoring.proofs.every_factor.Given as goal
 
 abbrev pub invariant-loop-i : goal.invariant-loop-i

@@ -1,8 +1,6 @@
 -- `factor_of` meets its contract: the table has the factor of each alpha. Assumes nothing.
-use native.Mathlib.Omega.{arith}
 use Rattle.arithmetic.specs.Matte.{restore_factor}
 use Rattle.arithmetic.proofs.Tables.{get_d_tabulate}
-use borrow.Author.Rules.{rules}
 use Rattle.rows_restoring.proofs.factor_of.Goals as goal
 
 pub returns : goal.returns

@@ -1,6 +1,5 @@
 -- `order_lanes` meets its contract: one loop for each layout that is not the scaler's own order. Assumes nothing.
 use Rattle.rows_restoring.proofs.RestoredPixels.{ordered_same}
-use borrow.Author.Rules.{rules}
 use Rattle.rows_restoring.proofs.order_lanes.Goals as goal
 
 pub returns-in-Rgba8 : goal.returns-in-Rgba8

@@ -1,7 +1,6 @@
 -- `put_word` meets its contract: each quotient and remainder is a lane of the pixel. Assumes nothing.
 use native.Mathlib.Omega.{arith}
 use lib.ListN.{length-set}
-use borrow.Author.Rules.{rules}
 use Rattle.rows_restoring.proofs.RestoredPixels.{lanes_put}
 use Rattle.rows_restoring.proofs.put_word.Goals as goal
 

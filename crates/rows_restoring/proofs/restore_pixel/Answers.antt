@@ -2,7 +2,6 @@
 use native.Mathlib.Omega.{arith}
 use lib.ListN.{length-set}
 use Rattle.rows_restoring.proofs.RestoredPixels.{colours_put}
-use borrow.Author.Rules.{rules}
 use Rattle.rows_restoring.proofs.restore_pixel.Goals as goal
 
 pub bounds-out-at-6 : goal.bounds-out-at-6

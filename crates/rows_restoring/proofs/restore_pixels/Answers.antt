@@ -1,11 +1,9 @@
 -- `restore_pixels` meets its contract: each turn restores the next pixel or finds it opaque. Assumes nothing.
-use Prim.Native.Nat.{ℕ, ◌-◌, ◌≤◌, ◌<◌}
-use mathlib.Core.Logic.{⊎_elim}
+use Prim.Native.Nat.{ℕ, ◌-◌, ◌<◌}
 use native.Mathlib.Omega.{arith}
 use lib.ListN.{get_or}
-use borrow.Author.Rules.{rules}
 use Rattle.arithmetic.proofs.Stores.{same, filled}
-use Rattle.rows_restoring.proofs.RestoredPixels.{Restoring, restore_first, restore_turn, opaque_turn}
+use Rattle.rows_restoring.proofs.RestoredPixels.{restore_first, restore_turn, opaque_turn}
 use Rattle.rows_restoring.proofs.restore_pixels.Goals as goal
 use Rattle.rows_restoring.proofs.restore_pixels.Goals.{then-out-at, else-out-at}
 
@@ -26,8 +24,8 @@ loop-j-preserved c =
     let more = c.loop-j-test.true in (
       omega arith,
       elim c.if-out-at.branch [
-        then-out-at w ↦ rw w.out-is (restore_turn small l.invariant.1 more w.restore_pixel.ensures)
-      | else-out-at w ↦ rw w.out-is (opaque_turn small l.invariant.1 more w.if-out-at.false)
+        | then-out-at w ↦ rw w.out-is (restore_turn small l.invariant.1 more w.restore_pixel.ensures)
+        | else-out-at w ↦ rw w.out-is (opaque_turn small l.invariant.1 more w.if-out-at.false)
       ],
     )
 

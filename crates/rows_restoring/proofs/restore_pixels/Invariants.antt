@@ -1,11 +1,6 @@
 -- `restore_pixels` meets its contract: each turn restores the next pixel or finds it opaque. Assumes nothing.
-use Prim.Native.Nat.{ℕ, ◌-◌, ◌≤◌, ◌<◌}
-use mathlib.Core.Logic.{⊎_elim}
-use native.Mathlib.Omega.{arith}
-use lib.ListN.{get_or}
-use borrow.Author.Rules.{rules}
-use Rattle.arithmetic.proofs.Stores.{same, filled}
-use Rattle.rows_restoring.proofs.RestoredPixels.{Restoring, restore_first, restore_turn, opaque_turn}
+use Prim.Native.Nat.{◌-◌, ◌≤◌}
+use Rattle.rows_restoring.proofs.RestoredPixels.{Restoring}
 use Rattle.rows_restoring.proofs.restore_pixels.Given as goal
 
 abbrev pub invariant-loop-j : goal.invariant-loop-j

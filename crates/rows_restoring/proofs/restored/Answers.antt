@@ -2,7 +2,6 @@
 use native.Mathlib.Omega.{arith}
 use native.Mathlib.Nat.{mul-le-mul_right, le_of_suc-le-suc}
 use Rattle.rows_restoring.proofs.RestoredPixels.{cut_none, cut_most}
-use borrow.Author.Rules.{rules}
 use Rattle.rows_restoring.proofs.restored.Goals as goal
 
 pub overflow_mul-scaled : goal.overflow_mul-scaled

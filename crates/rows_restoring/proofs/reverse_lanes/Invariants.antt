@@ -1,11 +1,7 @@
 -- `reverse_lanes` meets its contract: each turn reverses the lanes of the next pixel. Assumes nothing.
-use Prim.Native.Nat.{ℕ, ◌-◌, ◌≤◌, ◌<◌}
-use native.Mathlib.Omega.{arith}
-use lib.ListN.{get_or}
-use borrow.Author.Rules.{rules}
-use Rattle.arithmetic.proofs.Stores.{same, filled}
+use Prim.Native.Nat.{◌-◌, ◌≤◌}
 use Rattle.pixels_layout.specs.declared.PixelLayout.TheVariants.{Argb8}
-use Rattle.rows_restoring.proofs.RestoredPixels.{Ordered, order_first, order_turn}
+use Rattle.rows_restoring.proofs.RestoredPixels.{Ordered}
 use Rattle.rows_restoring.proofs.reverse_lanes.Given as goal
 
 abbrev pub invariant-loop-j : goal.invariant-loop-j

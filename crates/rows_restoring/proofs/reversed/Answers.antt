@@ -1,5 +1,4 @@
 -- `reversed` meets its contract: the sum is that of the four lanes in the other order. Assumes nothing.
-use borrow.Author.Rules.{rules}
 use Rattle.rows_restoring.proofs.RestoredPixels.{reversed_word}
 use Rattle.rows_restoring.proofs.reversed.Goals as goal
 

@@ -1,10 +1,9 @@
 -- `some_clear` meets its contract: each turn ands one more pixel, and the high byte of all is 255 exactly if every alpha so far is. Assumes nothing.
-use Prim.Native.Nat.{ℕ, ◌-◌, ◌≤◌, ◌<◌}
+use Prim.Native.Nat.{ℕ, ◌-◌, ◌<◌}
 use mathlib.Core.Path.{◌≡◌, sym}
 use native.Mathlib.Omega.{arith}
 use lib.ListN.{get_or}
-use borrow.Author.Rules.{rules}
-use Rattle.rows_restoring.proofs.OpaqueRows.{Anded, and_first, and_turn}
+use Rattle.rows_restoring.proofs.OpaqueRows.{and_first, and_turn}
 use Rattle.rows_restoring.proofs.some_clear.Goals as goal
 
 pub loop-j-init : goal.loop-j-init

@@ -1,10 +1,6 @@
 -- `some_clear` meets its contract: each turn ands one more pixel, and the high byte of all is 255 exactly if every alpha so far is. Assumes nothing.
-use Prim.Native.Nat.{ℕ, ◌-◌, ◌≤◌, ◌<◌}
-use mathlib.Core.Path.{◌≡◌, sym}
-use native.Mathlib.Omega.{arith}
-use lib.ListN.{get_or}
-use borrow.Author.Rules.{rules}
-use Rattle.rows_restoring.proofs.OpaqueRows.{Anded, and_first, and_turn}
+use Prim.Native.Nat.{◌-◌, ◌≤◌}
+use Rattle.rows_restoring.proofs.OpaqueRows.{Anded}
 use Rattle.rows_restoring.proofs.some_clear.Given as goal
 
 abbrev pub invariant-loop-j : goal.invariant-loop-j

@@ -1,11 +1,10 @@
 -- `swap_lanes` meets its contract: each turn exchanges blue and red of the next pixel. Assumes nothing.
-use Prim.Native.Nat.{ℕ, ◌-◌, ◌≤◌, ◌<◌}
+use Prim.Native.Nat.{ℕ, ◌-◌, ◌<◌}
 use native.Mathlib.Omega.{arith}
 use lib.ListN.{get_or}
-use borrow.Author.Rules.{rules}
 use Rattle.arithmetic.proofs.Stores.{same, filled}
 use Rattle.pixels_layout.specs.declared.PixelLayout.TheVariants.{Rgba8}
-use Rattle.rows_restoring.proofs.RestoredPixels.{Ordered, order_first, order_turn}
+use Rattle.rows_restoring.proofs.RestoredPixels.{order_first, order_turn}
 use Rattle.rows_restoring.proofs.swap_lanes.Goals as goal
 
 pub loop-j-init : goal.loop-j-init

@@ -1,5 +1,4 @@
 -- `swapped` meets its contract: the sum is that of the four lanes, blue and red exchanged. Assumes nothing.
-use borrow.Author.Rules.{rules}
 use Rattle.rows_restoring.proofs.RestoredPixels.{swapped_word}
 use Rattle.rows_restoring.proofs.swapped.Goals as goal
 

@@ -1,6 +1,5 @@
 -- `word` meets its contract: it joins the four lanes. Assumes nothing.
 use Rattle.rows_restoring.proofs.RestoredPixels.{word_is}
-use borrow.Author.Rules.{rules}
 use Rattle.rows_restoring.proofs.word.Goals as goal
 
 pub returns : goal.returns

@@ -1,5 +1,5 @@
 -- No product is too large. Assumes nothing.
-use Rattle.std.proofs.Common.{arith, rules}
+use Rattle.std.proofs.Common.{arith}
 use Rattle.arithmetic.proofs.Products.{most}
 use Rattle.rows_scaling.proofs.below_half.Goals as goal
 

@@ -1,7 +1,7 @@
 -- `blend_lanes` meets its contract: each turn stores the bytes of two values blended, and where w is odd the last is stored after the loop. Assumes nothing.
-use Rattle.rows_scaling.proofs.BlendLanes.{Grown, grow_first, grow_one, grow_two}
+use Rattle.rows_scaling.proofs.BlendLanes.{grow_first, grow_one, grow_two}
 use Rattle.arithmetic.proofs.Stores.{same, filled}
-use Rattle.std.proofs.Common.{◌≡◌, ◌+◌, ◌-◌, ◌^◌, arith, rules}
+use Rattle.std.proofs.Common.{◌-◌, arith}
 use Rattle.rows_scaling.proofs.blend_lanes.Goals as goal
 
 pub loop-k-init : goal.loop-k-init

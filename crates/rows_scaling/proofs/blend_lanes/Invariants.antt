@@ -1,7 +1,6 @@
 -- `blend_lanes` meets its contract: each turn stores the bytes of two values blended, and where w is odd the last is stored after the loop. Assumes nothing.
-use Rattle.rows_scaling.proofs.BlendLanes.{Grown, grow_first, grow_one, grow_two}
-use Rattle.arithmetic.proofs.Stores.{same, filled}
-use Rattle.std.proofs.Common.{◌≡◌, ◌+◌, ◌-◌, ◌^◌, arith, rules}
+use Rattle.rows_scaling.proofs.BlendLanes.{Grown}
+use Rattle.std.proofs.Common.{◌≡◌, ◌+◌, ◌-◌, ◌^◌}
 use Rattle.rows_scaling.proofs.blend_lanes.Given as goal
 
 abbrev pub invariant-loop-k : goal.invariant-loop-k

@@ -1,5 +1,5 @@
 -- `blended` meets its contract: the weights are 2^32 in all, so the sum and a half fit 64 bits and the quotient 32. Assumes nothing.
-use Rattle.std.proofs.Common.{get_or, arith, rules}
+use Rattle.std.proofs.Common.{get_or, arith}
 use Rattle.rows_scaling.proofs.Factors.{blend_most, mixed_is}
 use Rattle.rows_scaling.proofs.blended.Goals as goal
 

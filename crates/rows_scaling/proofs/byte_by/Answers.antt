@@ -1,5 +1,4 @@
 -- `byte_by` meets its contract: where the signed tests are used the factor fits them, so that the product does. Assumes nothing.
-use Rattle.std.proofs.Common.{rules}
 use Rattle.rows_scaling.proofs.Clamp.{mult_halved}
 use Rattle.rows_scaling.proofs.byte_by.Goals as goal
 

@@ -3,7 +3,7 @@ use Rattle.rows_scaling.proofs.Factors.{factor_half, grow_room, grow_out, level_
 use Rattle.rows_scaling.proofs.RestRange.{up_some, up_low, up_high}
 use Rattle.rows_scaling.specs.Scaling.{scale_in}
 use Rattle.arithmetic.proofs.Products.{most}
-use Rattle.std.proofs.Common.{ℕ, ◌-◌, ◌^◌, ◌<◌, get_or, arith, rules}
+use Rattle.std.proofs.Common.{ℕ, ◌-◌, ◌^◌, ◌<◌, get_or, arith}
 use Rattle.rows_scaling.proofs.grow_row.Goals as goal
 
 pub overflow_sub-d : goal.overflow_sub-d

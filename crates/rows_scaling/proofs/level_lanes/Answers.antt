@@ -1,7 +1,7 @@
 -- `level_lanes` meets its contract: each turn stores the byte of the newer value; the factor fits the signed tests where they are used. Assumes nothing.
-use Rattle.rows_scaling.proofs.BlendLanes.{Grown, grow_first, level_one}
+use Rattle.rows_scaling.proofs.BlendLanes.{grow_first, level_one}
 use Rattle.arithmetic.proofs.Stores.{same, filled}
-use Rattle.std.proofs.Common.{◌-◌, arith, rules}
+use Rattle.std.proofs.Common.{◌-◌, arith}
 use Rattle.rows_scaling.proofs.level_lanes.Goals as goal
 
 pub loop-k-init : goal.loop-k-init

@@ -1,7 +1,6 @@
 -- `level_lanes` meets its contract: each turn stores the byte of the newer value; the factor fits the signed tests where they are used. Assumes nothing.
-use Rattle.rows_scaling.proofs.BlendLanes.{Grown, grow_first, level_one}
-use Rattle.arithmetic.proofs.Stores.{same, filled}
-use Rattle.std.proofs.Common.{◌-◌, arith, rules}
+use Rattle.rows_scaling.proofs.BlendLanes.{Grown}
+use Rattle.std.proofs.Common.{◌-◌}
 use Rattle.rows_scaling.proofs.level_lanes.Given as goal
 
 abbrev pub invariant-loop-k : goal.invariant-loop-k

@@ -1,5 +1,5 @@
 -- `next_of` meets its contract, which is the test. Assumes nothing.
-use Rattle.std.proofs.Common.{rules, eq-eqb, ne_eqb}
+use Rattle.std.proofs.Common.{eq-eqb, ne_eqb}
 use Rattle.rows_scaling.proofs.next_of.Goals as goal
 
 pub returns-then-c-ne0 : goal.returns-then-c-ne0

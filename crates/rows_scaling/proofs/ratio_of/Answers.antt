@@ -1,5 +1,5 @@
 -- The divisor is not 0, and no product is too large. Assumes nothing.
-use Rattle.std.proofs.Common.{refl, mul-le-mul_right, arith, rules}
+use Rattle.std.proofs.Common.{refl, mul-le-mul_right, arith}
 use Rattle.arithmetic.proofs.Products.{most}
 use Rattle.rows.specs.Output.{ratio}
 use Rattle.rows_scaling.proofs.ratio_of.Goals as goal

@@ -2,7 +2,6 @@
 use Rattle.rows_scaling.proofs.Factors.{halves_stay}
 use Rattle.rows_scaling.proofs.ScaleValues.{values_refused, row_asks, room_asks, values_done}
 use Rattle.rows_scaling.specs.Scaling.{scale_in}
-use Rattle.std.proofs.Common.{rules}
 use Rattle.rows_scaling.proofs.scale_values.Goals as goal
 
 pub returns-in-Refused : goal.returns-in-Refused

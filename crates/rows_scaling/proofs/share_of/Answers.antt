@@ -1,5 +1,4 @@
 -- `share_of` meets its contract: a product with 0 is 0. Assumes nothing.
-use Rattle.std.proofs.Common.{rules}
 use Rattle.rows_scaling.proofs.ShrinkLanes.{floor_none}
 use Rattle.rows_scaling.proofs.share_of.Goals as goal
 

@@ -1,5 +1,5 @@
 -- d is in its range, so it fits; the step is SCOPE's. Assumes nothing.
-use Rattle.std.proofs.Common.{arith, rules}
+use Rattle.std.proofs.Common.{arith}
 use Rattle.arithmetic.proofs.Products.{most}
 use Rattle.rows_scaling.proofs.Factors.{step_of}
 use Rattle.rows_scaling.proofs.RestRange.{down_low, down_high}

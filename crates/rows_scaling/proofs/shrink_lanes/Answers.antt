@@ -1,7 +1,7 @@
 -- `shrink_lanes` meets its contract: each turn stores f and the byte that it leaves; the ratio is below 2^31, so the byte is clamped by signed tests. Assumes nothing.
-use Rattle.rows_scaling.proofs.ShrinkLanes.{Shrunk, shrink_first, shrink_turn}
+use Rattle.rows_scaling.proofs.ShrinkLanes.{shrink_first, shrink_turn}
 use Rattle.arithmetic.proofs.Stores.{same, all_stored, filled}
-use Rattle.std.proofs.Common.{◌-◌, arith, rules}
+use Rattle.std.proofs.Common.{◌-◌, arith}
 use Rattle.rows_scaling.proofs.shrink_lanes.Goals as goal
 
 pub loop-k-init : goal.loop-k-init

@@ -1,7 +1,6 @@
 -- `shrink_lanes` meets its contract: each turn stores f and the byte that it leaves; the ratio is below 2^31, so the byte is clamped by signed tests. Assumes nothing.
-use Rattle.rows_scaling.proofs.ShrinkLanes.{Shrunk, shrink_first, shrink_turn}
-use Rattle.arithmetic.proofs.Stores.{same, all_stored, filled}
-use Rattle.std.proofs.Common.{◌-◌, arith, rules}
+use Rattle.rows_scaling.proofs.ShrinkLanes.{Shrunk}
+use Rattle.std.proofs.Common.{◌-◌}
 use Rattle.rows_scaling.proofs.shrink_lanes.Given as goal
 
 abbrev pub invariant-loop-k : goal.invariant-loop-k

@@ -1,7 +1,7 @@
 -- `take_lanes` meets its contract: each turn stores the low byte and a 0. Assumes nothing.
-use Rattle.rows_scaling.proofs.ShrinkLanes.{Taken, take_first, take_turn}
+use Rattle.rows_scaling.proofs.ShrinkLanes.{take_first, take_turn}
 use Rattle.arithmetic.proofs.Stores.{same, all_stored, filled}
-use Rattle.std.proofs.Common.{◌-◌, arith, rules}
+use Rattle.std.proofs.Common.{◌-◌, arith}
 use Rattle.rows_scaling.proofs.take_lanes.Goals as goal
 
 pub loop-k-init : goal.loop-k-init

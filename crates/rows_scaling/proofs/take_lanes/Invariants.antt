@@ -1,7 +1,6 @@
 -- `take_lanes` meets its contract: each turn stores the low byte and a 0. Assumes nothing.
-use Rattle.rows_scaling.proofs.ShrinkLanes.{Taken, take_first, take_turn}
-use Rattle.arithmetic.proofs.Stores.{same, all_stored, filled}
-use Rattle.std.proofs.Common.{◌-◌, arith, rules}
+use Rattle.rows_scaling.proofs.ShrinkLanes.{Taken}
+use Rattle.std.proofs.Common.{◌-◌}
 use Rattle.rows_scaling.proofs.take_lanes.Given as goal
 
 abbrev pub invariant-loop-k : goal.invariant-loop-k

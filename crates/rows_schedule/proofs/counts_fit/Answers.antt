@@ -4,7 +4,6 @@ use mathlib.Core.Path.{◌≡◌, ◌∙◌, ap}
 use mathlib.Core.Bool.{false}
 use lib.Dec.{leb}
 use borrow.Author.Tests.{le-leb, lt-leb}
-use borrow.Author.Rules.{rules}
 use Rattle.rows_schedule.specs.Schedule.{rows_by, counts_fit}
 use Rattle.rows_schedule.proofs.counts_fit.Goals as goal
 

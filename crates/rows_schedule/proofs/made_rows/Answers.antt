@@ -8,7 +8,6 @@ use borrow.Author.Tests.{lt-leb, eq-eqb, ne_eqb}
 use Rattle.arithmetic.proofs.Products.{most}
 use Rattle.rows_schedule.specs.Schedule.{made}
 use Rattle.rows_schedule.proofs.Made.{made_down}
-use borrow.Author.Rules.{rules}
 use Rattle.rows_schedule.proofs.made_rows.Goals as goal
 
 -- ---- the cases of the definition

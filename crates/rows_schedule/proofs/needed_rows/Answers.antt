@@ -11,7 +11,6 @@ use Rattle.arithmetic.proofs.Orders.{le_or_lt}
 use Rattle.arithmetic.proofs.Products.{most}
 use Rattle.rows_schedule.specs.Schedule.{needed}
 use Rattle.rows_schedule.proofs.Needed.{needed_down, needed_grow}
-use borrow.Author.Rules.{rules}
 use Rattle.rows_schedule.proofs.needed_rows.Goals as goal
 
 -- ---- the cases of the definition

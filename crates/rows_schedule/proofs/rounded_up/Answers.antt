@@ -3,7 +3,6 @@ use Prim.Native.Nat.{ℕ, ◌+◌, ◌-◌, ◌/◌}
 use mathlib.Core.Path.{◌≡◌, refl, sym, ap, ◌∙◌}
 use native.Mathlib.Nat.{div-zero}
 use Rattle.arithmetic.specs.Quotient.{ceil}
-use borrow.Author.Rules.{rules}
 use Rattle.rows_schedule.proofs.rounded_up.Goals as goal
 
 by_zero : (x d : ℕ) → d ≡ 0 → ceil x d ≡ 0

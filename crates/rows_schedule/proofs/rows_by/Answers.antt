@@ -1,6 +1,5 @@
 -- `rows_by` meets its contract: R of k is R of u, by the promises of the two functions that it calls. Assumes nothing.
 use mathlib.Core.Path.{◌∙◌, ap}
-use borrow.Author.Rules.{rules}
 use Rattle.rows_schedule.specs.Schedule.{made}
 use Rattle.rows_schedule.proofs.rows_by.Goals as goal
 

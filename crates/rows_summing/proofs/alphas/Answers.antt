@@ -1,6 +1,5 @@
 -- `alphas`: the invariant is `Adding`. Assumes nothing.
-use Rattle.rows_summing.proofs.Opaque.{Adding, adding_first, adding_turn, adding_done}
-use borrow.Author.Rules.{rules}
+use Rattle.rows_summing.proofs.Opaque.{adding_first, adding_turn, adding_done}
 use native.Mathlib.Omega.{arith}
 use Prim.Native.Nat.{◌-◌}
 use Rattle.rows_summing.proofs.alphas.Goals as goal

@@ -1,7 +1,5 @@
 -- `alphas`: the invariant is `Adding`. Assumes nothing.
-use Rattle.rows_summing.proofs.Opaque.{Adding, adding_first, adding_turn, adding_done}
-use borrow.Author.Rules.{rules}
-use native.Mathlib.Omega.{arith}
+use Rattle.rows_summing.proofs.Opaque.{Adding}
 use Prim.Native.Nat.{◌-◌}
 use Rattle.rows_summing.proofs.alphas.Given as goal
 

@@ -2,7 +2,6 @@
 use Rattle.rows_summing.proofs.Blocks.{block_kept}
 use borrow.Author.Tests.{not-true, not-false}
 use mathlib.Core.Path.{sym, ◌∙◌}
-use borrow.Author.Rules.{rules}
 use Rattle.rows_summing.proofs.sum_block.Goals as goal
 
 pub returns-then-not-block_fits : goal.returns-then-not-block_fits

@@ -1,13 +1,8 @@
 -- `sum_columns`: what stands after the block's sums stays; the bytes matted end the loop, and so do opaque ones as they stand. Assumes nothing.
-use Rattle.rows_summing.proofs.Opaque.{alpha_in_lem, first_inside, first_small, seen_small, tail_kept, toned_done, opaque_done, turn_less}
-use Rattle.rows_gathering.proofs.Blocks.{block_of}
 use Rattle.rows_gathering.specs.Gathered.{block_columns}
-use borrow.Author.Rules.{rules}
-use borrow.Author.Tests.{not-true, not-false}
-use native.Mathlib.Omega.{arith}
-use lib.ListN.{length, drop}
+use lib.ListN.{drop}
 use mathlib.Core.Bool.{cond}
-use mathlib.Core.Path.{◌≡◌, refl}
+use mathlib.Core.Path.{◌≡◌}
 use Prim.Native.Nat.{◌*◌}
 use Rattle.rows_summing.proofs.sum_columns.Given as goal
 

@@ -10,7 +10,6 @@ use Rattle.pixels.specs.Sizes.{bad_side}
 use Rattle.pixels.proofs.Causes.{first_at, first_none}
 use Rattle.pixels.proofs.Truths.{differ, same}
 use Rattle.rows_tests.specs.Tests.{import_causes, import_number}
-use borrow.Author.Rules.{rules}
 use Rattle.rows_tests.proofs.check_import.Goals as goal
 
 both : (n m : ℕ) → bad_side n ≡ false → bad_side m ≡ false → (bad_side n || bad_side m) ≡ false

@@ -10,7 +10,6 @@ use Rattle.pixels.proofs.Causes.{first_at}
 use Rattle.rows_tests.specs.Tests.{scale_causes, scale_number}
 use Rattle.rows_tests.proofs.Passing.{scale_passes}
 use Rattle.arithmetic.proofs.Products.{most}
-use borrow.Author.Rules.{rules}
 use Rattle.rows_tests.proofs.check_scale.Goals as goal
 
 pub returns-then-bad_size : goal.returns-then-bad_size

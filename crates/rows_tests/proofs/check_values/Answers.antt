@@ -8,7 +8,6 @@ use Rattle.pixels.proofs.Truths.{differ, same, not_false}
 use Rattle.pixels.proofs.Causes.{first_at}
 use Rattle.rows_tests.specs.Tests.{values_causes, values_number}
 use Rattle.rows_tests.proofs.Passing.{values_pass}
-use borrow.Author.Rules.{rules}
 use Rattle.rows_tests.proofs.check_values.Goals as goal
 
 pub returns-then-s-eq0 : goal.returns-then-s-eq0

@@ -1,5 +1,5 @@
 -- `fall_of`: what its two calls say, one in the other. Assumes nothing.
-use Rattle.std.proofs.Common.{ℕ, ap, ◌∙◌, rules}
+use Rattle.std.proofs.Common.{ℕ, ap, ◌∙◌}
 use Rattle.arithmetic.specs.Word.{wrap_mul}
 use Rattle.rows_widening.proofs.fall_of.Goals as goal
 

@@ -1,5 +1,5 @@
 -- `grow`: one lane of two pixels or more, or any row. Assumes nothing.
-use Rattle.std.proofs.Common.{◌≡◌, sym, rules, ltb-true}
+use Rattle.std.proofs.Common.{sym, ltb-true}
 use Rattle.rows_widening.proofs.grow.Goals as goal
 
 pub grow_lane-requires : goal.grow_lane-requires

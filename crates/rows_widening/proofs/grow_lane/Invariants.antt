@@ -1,6 +1,6 @@
 -- `grow_lane`: column after column by differences, by the laws of LaneRows. Assumes nothing.
-use Rattle.std.proofs.Common.{◌-◌, arith, rules}
-use Rattle.rows_widening.proofs.LaneRows.{Falling, falling_first, falling_room, falling_on, falling_over, falling_same, falling_done}
+use Rattle.std.proofs.Common.{◌-◌}
+use Rattle.rows_widening.proofs.LaneRows.{Falling}
 use Rattle.rows_widening.proofs.grow_lane.Given as goal
 
 abbrev pub invariant-loop-acc : goal.invariant-loop-acc

@@ -1,7 +1,7 @@
 -- `grow_lanes`: the invariant is `Growing`. Assumes nothing.
 use Rattle.std.proofs.Common.{◌-◌, mul-le-mul, arith}
 use Rattle.arithmetic.proofs.Stores.{same}
-use Rattle.rows_widening.proofs.GrowingRows.{Growing, growing_first, growing_stands, growing_right, growing_between, growing_turn, growing_done}
+use Rattle.rows_widening.proofs.GrowingRows.{growing_first, growing_stands, growing_right, growing_between, growing_turn, growing_done}
 use Rattle.rows_widening.proofs.grow_lanes.Goals as goal
 
 pub overflow_sub-span : goal.overflow_sub-span

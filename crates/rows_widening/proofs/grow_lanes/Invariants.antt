@@ -1,7 +1,6 @@
 -- `grow_lanes`: the invariant is `Growing`. Assumes nothing.
-use Rattle.std.proofs.Common.{◌-◌, mul-le-mul, arith}
-use Rattle.arithmetic.proofs.Stores.{same}
-use Rattle.rows_widening.proofs.GrowingRows.{Growing, growing_first, growing_stands, growing_right, growing_between, growing_turn, growing_done}
+use Rattle.std.proofs.Common.{◌-◌}
+use Rattle.rows_widening.proofs.GrowingRows.{Growing}
 use Rattle.rows_widening.proofs.grow_lanes.Given as goal
 
 abbrev pub invariant-loop-j : goal.invariant-loop-j

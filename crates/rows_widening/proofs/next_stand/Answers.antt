@@ -1,5 +1,5 @@
 -- `next_stand`: into the next pixel where the parts of the left one do not reach. Assumes nothing.
-use Rattle.std.proofs.Common.{refl, arith, rules}
+use Rattle.std.proofs.Common.{refl, arith}
 use Rattle.rows_widening.proofs.next_stand.Goals as goal
 
 pub returns-then-s-step : goal.returns-then-s-step

@@ -1,5 +1,5 @@
 -- `part`: a byte times the parts. Assumes nothing.
-use Rattle.std.proofs.Common.{ℕ, ap, ◌∙◌, mul-le-mul, arith, rules}
+use Rattle.std.proofs.Common.{ℕ, ap, ◌∙◌, mul-le-mul, arith}
 use Rattle.arithmetic.specs.Word.{wrap_mul}
 use Rattle.rows_widening.specs.Inner.{byte_of}
 use Rattle.rows_widening.proofs.part.Goals as goal

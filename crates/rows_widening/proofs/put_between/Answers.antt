@@ -1,6 +1,6 @@
 -- `put_between`: a lane a turn. Assumes nothing.
 -- the lane's part of a pixel may be read
-use Rattle.std.proofs.Common.{◌≡◌, ℕ, suc, ◌+◌, ◌-◌, ◌<◌, ◌≤◌, List, length, set, ap, ◌∙◌, ap₂, add-one, arith, rules}
+use Rattle.std.proofs.Common.{◌≡◌, ℕ, ◌+◌, ◌-◌, ◌<◌, List, length, set, ap, ◌∙◌, ap₂, add-one, arith}
 use Rattle.arithmetic.specs.Word.{wrap_add}
 use Rattle.rows_widening.specs.Inner.{set_all, between_value, PartAsks, BetweenAsks}
 use Rattle.rows_widening.proofs.Storing.{set_all_none, set_all_more, set_all_length}

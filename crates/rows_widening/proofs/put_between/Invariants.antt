@@ -1,9 +1,7 @@
 -- `put_between`: a lane a turn. Assumes nothing.
 -- the lane's part of a pixel may be read
-use Rattle.std.proofs.Common.{◌≡◌, ℕ, suc, ◌+◌, ◌-◌, ◌<◌, ◌≤◌, List, length, set, ap, ◌∙◌, ap₂, add-one, arith, rules}
-use Rattle.arithmetic.specs.Word.{wrap_add}
-use Rattle.rows_widening.specs.Inner.{set_all, between_value, PartAsks, BetweenAsks}
-use Rattle.rows_widening.proofs.Storing.{set_all_none, set_all_more, set_all_length}
+use Rattle.std.proofs.Common.{◌≡◌, ◌-◌, ◌≤◌}
+use Rattle.rows_widening.specs.Inner.{set_all, between_value}
 use Rattle.rows_widening.proofs.put_between.Given as goal
 
 abbrev pub invariant-loop-k : goal.invariant-loop-k

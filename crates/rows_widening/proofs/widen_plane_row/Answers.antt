@@ -1,5 +1,5 @@
 -- `widen_plane_row`: a refusal is handed on with its number; else the row's bytes are written where the width grows. Assumes nothing.
-use Rattle.std.proofs.Common.{sym, ◌∙◌, arith, rules}
+use Rattle.std.proofs.Common.{sym, ◌∙◌, arith}
 use Rattle.pixels.proofs.Numbers.{buffer_refused}
 use Rattle.rows_widening.specs.Widening.{widened_half}
 use Rattle.rows_widening.proofs.RowBytes.{row_asks, by_bytes, widened, not_widened}

@@ -1,5 +1,4 @@
 -- `mult_argb` meets its contract: the colours of the pixel's lanes, each scaled by the factor of the high byte, put together again. Assumes nothing.
-use Rattle.std.proofs.Common.{rules}
 use Rattle.arithmetic.proofs.Mattes.{argb_made}
 use Rattle.arithmetic.proofs.matting.mult_argb.Goals as goal
 

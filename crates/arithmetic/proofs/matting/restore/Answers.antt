@@ -1,5 +1,5 @@
 -- `restore` meets its contract: the three cases of an alpha, and between them the smaller of colour and alpha times the alpha's entry. Assumes nothing.
-use Rattle.std.proofs.Common.{ℕ, ◌-◌, get_or, sym, ap, ◌∙◌, arith, rules}
+use Rattle.std.proofs.Common.{ℕ, ◌-◌, get_or, sym, ap, ◌∙◌, arith}
 use Rattle.arithmetic.specs.Matte.{scale_colour}
 use Rattle.arithmetic.proofs.Mattes.{lent_opaque, lent_clear, lent_between}
 use Rattle.arithmetic.proofs.matting.restore.Goals as goal

@@ -1,5 +1,5 @@
 -- `scale` meets its contract: by SCOPE's factors a restored colour is cut at 255, and a matted one has nothing to cut. Assumes nothing.
-use Rattle.std.proofs.Common.{true, sym, ◌∙◌, arith, rules}
+use Rattle.std.proofs.Common.{true, sym, ◌∙◌, arith}
 use Rattle.arithmetic.specs.Matte.{factor_of}
 use Rattle.arithmetic.proofs.Mattes.{lent_is, cut_byte, matte_most, matte_not_cut}
 use Rattle.arithmetic.proofs.matting.scale.Goals as goal

@@ -6,7 +6,6 @@ use borrow.Author.Tests.{not-true, not-false}
 use Rattle.job.proofs.Answering.{made_fits}
 use Rattle.job.proofs.Ready.{ready_none, ready_some}
 use Rattle.job.proofs.Views.{lawful_of_lem}
-use borrow.Author.Rules.{rules}
 use Rattle.job.proofs.Job.ready.Goals as goal
 
 pub returns-then-not-check : goal.returns-then-not-check

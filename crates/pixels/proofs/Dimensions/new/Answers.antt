@@ -3,7 +3,6 @@ use Rattle.pixels.proofs.Numbers.{sized_refused, sized_accepted}
 use Rattle.pixels.specs.declared.Refusal.TheVariants.{InvalidDimensions}
 use Rattle.pixels.proofs.Fitting.{size_bad, size_passes}
 use mathlib.Core.Path.{sym, ◌∙◌}
-use borrow.Author.Rules.{rules}
 use Rattle.pixels.proofs.Dimensions.new.Goals as goal
 
 pub returns-then-bad_size : goal.returns-then-bad_size

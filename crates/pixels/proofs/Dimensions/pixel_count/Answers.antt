@@ -1,7 +1,6 @@
 -- The product of two sides of 32 bits fits 64. Assumes nothing.
 use Rattle.arithmetic.proofs.Products.{most}
 use native.Mathlib.Omega.{arith}
-use borrow.Author.Rules.{rules}
 use Rattle.pixels.proofs.Dimensions.pixel_count.Goals as goal
 
 pub overflow_mul-result : goal.overflow_mul-result

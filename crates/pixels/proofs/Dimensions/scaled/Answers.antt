@@ -4,7 +4,6 @@ use Rattle.pixels.proofs.Numbers.{sized_refused}
 use Rattle.pixels.specs.declared.Refusal.TheVariants.{InvalidDimensions}
 use native.Mathlib.Omega.{arith}
 use mathlib.Core.Path.{sym, ◌∙◌}
-use borrow.Author.Rules.{rules}
 use Rattle.pixels.proofs.Dimensions.scaled.Goals as goal
 
 pub returns-then-bad_size : goal.returns-then-bad_size

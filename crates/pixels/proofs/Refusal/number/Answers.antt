@@ -1,7 +1,6 @@
 -- `Refusal::number`: each arm's number is the definition's of the variant that the match found. Assumes nothing.
 use mathlib.Core.Path.{sym, ap}
 use Rattle.pixels.specs.Refusals.{number}
-use borrow.Author.Rules.{rules}
 use Rattle.pixels.proofs.Refusal.number.Goals as goal
 
 pub returns-in-InvalidDimensions : goal.returns-in-InvalidDimensions

@@ -1,7 +1,6 @@
 -- The two tests of a side. Assumes nothing.
 use Rattle.pixels.specs.Sizes.{bad_side}
 use borrow.Author.Tests.{eq-eqb, ne_eqb}
-use borrow.Author.Rules.{rules}
 use Rattle.pixels.proofs.sizes.bad_side.Goals as goal
 
 pub returns-then-side-eq0 : goal.returns-then-side-eq0

@@ -1,7 +1,6 @@
 -- Both sides of a size. Assumes nothing.
 use Rattle.pixels.specs.Sizes.{bad_size}
 use mathlib.Core.Path.{sym, ◌∙◌}
-use borrow.Author.Rules.{rules}
 use Rattle.pixels.proofs.sizes.bad_size.Goals as goal
 
 pub returns-then-bad_side : goal.returns-then-bad_side

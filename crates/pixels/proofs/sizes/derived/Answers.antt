@@ -4,7 +4,6 @@ use Rattle.arithmetic.specs.Quotient.{ceil}
 use borrow.Author.Tests.{eq-eqb, ne_eqb}
 use native.Mathlib.Nat.{mul-le-mul}
 use native.Mathlib.Omega.{arith}
-use borrow.Author.Rules.{rules}
 use Rattle.pixels.proofs.sizes.derived.Goals as goal
 
 pub overflow_mul-result : goal.overflow_mul-result

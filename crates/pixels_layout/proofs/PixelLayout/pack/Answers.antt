@@ -1,6 +1,5 @@
 -- Each byte is the lane that the table has at its place. Assumes nothing.
 use Rattle.pixels_layout.proofs.Packing.{pack_from}
-use borrow.Author.Rules.{rules}
 use Rattle.pixels_layout.proofs.PixelLayout.pack.Goals as goal
 
 pub returns : goal.returns

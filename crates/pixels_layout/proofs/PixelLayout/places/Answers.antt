@@ -1,6 +1,5 @@
 -- The four places, read off the table. Assumes nothing.
 use Rattle.pixels_layout.proofs.Tabled.{places_from}
-use borrow.Author.Rules.{rules}
 use Rattle.pixels_layout.proofs.PixelLayout.places.Goals as goal
 
 pub returns : goal.returns

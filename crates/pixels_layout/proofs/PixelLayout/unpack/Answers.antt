@@ -1,6 +1,5 @@
 -- The four lanes, read where the table says. Assumes nothing.
 use Rattle.pixels_layout.proofs.Packing.{unpack_from}
-use borrow.Author.Rules.{rules}
 use Rattle.pixels_layout.proofs.PixelLayout.unpack.Goals as goal
 
 pub returns : goal.returns

@@ -1,5 +1,5 @@
 -- `check_put`: the tests before a return passed and its own did not, so the number is its. Assumes nothing.
-use Rattle.std.proofs.Common.{sym, ◌∙◌, mul-le-mul_right, arith, rules, lt-ltb}
+use Rattle.std.proofs.Common.{sym, ◌∙◌, mul-le-mul_right, arith, lt-ltb}
 use Rattle.arithmetic.proofs.Products.{most}
 use Rattle.pixels.proofs.Causes.{first_at}
 use Rattle.pixels.proofs.Fitting.{lanes_of_lem}

@@ -1,5 +1,4 @@
 -- `import_in`: each form's own import. Assumes nothing.
-use Rattle.std.proofs.Common.{rules}
 use Rattle.rows_adding.proofs.put.import_in.Goals as goal
 
 pub returns-in-Pixels : goal.returns-in-Pixels

@@ -1,5 +1,5 @@
 -- `put_row`: a refusal is handed on with its number; else the row is asked what it may ask. Assumes nothing.
-use Rattle.std.proofs.Common.{sym, rules}
+use Rattle.std.proofs.Common.{sym}
 use Rattle.pixels.proofs.Numbers.{buffer_refused, buffer_written}
 use Rattle.rows_adding.specs.Put.{put_work}
 use Rattle.rows_adding.proofs.put.put_row.Goals as goal

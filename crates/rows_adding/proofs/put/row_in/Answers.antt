@@ -1,5 +1,5 @@
 -- `row_in`: the half is lent as a part of the work rows and comes back; then the halves are added or not. Assumes nothing.
-use Rattle.std.proofs.Common.{arith, rules}
+use Rattle.std.proofs.Common.{arith}
 use Rattle.arithmetic.proofs.Products.{most}
 use Rattle.rows_adding.proofs.Putting.{at_low, row_next, row_grows, row_adds}
 use Rattle.rows_adding.proofs.put.row_in.Goals as goal
