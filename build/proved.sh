@@ -16,7 +16,7 @@ reached() {
             for (i = 1; i <= n; i++) visit(list[i])
         }
         { sub(/#.*/, ""); at = index($0, ":") }
-        at { name = substr($0, 1, at - 1); gsub(/[ \t]/, "", name); uses[name] = substr($0, at + 1); order[++count] = name }
+        at { split($0, word, /[ \t:]+/); name = word[word[1] == "" ? 2 : 1]; uses[name] = substr($0, at + 1); order[++count] = name }
         END {
             n = split(wanted, list, " ")
             for (i = 1; i <= n; i++) visit(list[i])
@@ -53,14 +53,32 @@ built_of() { # FILE SUM
     printf '%s\n' "$2" "$(kit)" >"$1.sources"
 }
 
-# Reads what rt says and shows each crate that it proves: its seconds, n of m, the seconds so far. A crate that was proved before is counted only.
+# Reads what rt says and shows each crate as its proof begins: n of at most m, the seconds so far. rt says nothing of a crate that was proved before.
 progress() { # OF LOG
-    local line proved=0
+    local line begun=0
     while IFS= read -r line; do
         printf '%s\n' "$line" >>"$2"
-        [[ $line =~ ^rt:\ ([A-Za-z0-9_]+)\ proved\ \((.*)\)$ ]] || continue
-        proved=$((proved + 1))
-        [[ ${BASH_REMATCH[2]} == unchanged* ]] ||
-            printf '%s: %s proved (%s), %d of %d, %d s so far\n' "$me" "${BASH_REMATCH[1]}" "${BASH_REMATCH[2]}" "$proved" "$1" "$SECONDS" >&2
+        [[ $line =~ ^rt:\ chose\ --jobs\ [0-9]+\ for\ ([A-Za-z0-9_]+)$ ]] || continue
+        begun=$((begun + 1))
+        printf '%s: proving %s, %d of at most %d, %d s so far\n' "$me" "${BASH_REMATCH[1]}" "$begun" "$1" "$SECONDS" >&2
     done
+}
+
+# Builds the static library of the crate NAME over the libraries that rt ci has just proved and left in crates/*/out, by the words that rt gives to rattle. (`rt lib`
+# proves each of those again first, since no stamp stands beside what rt ci leaves.)
+build_over_ci() { # NAME
+    local kit name used=no uses words=()
+    kit=$(dirname -- "$(rt doc)")
+    while IFS=: read -r name uses; do
+        [ "$name" = "$1" ] && used=$uses && continue
+        [ -d "$root/crates/$name/out/rlib/$name.rlib" ] || return
+        words+=(-L "dependency=$root/crates/$name/out/rlib")
+    done < <(reached "$1")
+    [ "$used" != no ] || return
+    for name in std $used; do
+        if [ -d "$root/crates/$name" ]; then words+=(--extern "$name=$root/crates/$name/out/rlib/$name.rlib"); else words+=(--extern "$name=$kit/rlibs/$name.rlib"); fi
+    done
+    mkdir -p "$root/crates/$1/out"
+    cd -- "$root/crates/$1" && "$kit/bin/rattle" build --crate-name "$1" src/lib.rt "${words[@]}" -L "dependency=$kit/rlibs" --antt-project "$kit/rattle/logic/antt-project.json" \
+        --logic-built "$kit/logic_built" --jobs 1 --links "$1=" --crate-type staticlib --toolchain "$kit/toolchain" --backend llvm -o "out/lib$1.a"
 }
