@@ -1,5 +1,5 @@
 # shellcheck shell=bash
-# Sourced by ./preview and ./archive: whether a thing that was built is of these sources, and proving them, seen while it runs.
+# Sourced by ./preview, ./archive and ./test, and by scripts of tests/: whether a thing that was built is of these sources, and proving them, seen while it runs.
 # The caller has set `root`, the repository, and `me`, its own name.
 : "${root:?}" "${me:?}"
 

@@ -2,7 +2,7 @@
 //! missing or not of these sources. Documents are made without it (`cargo doc`; always where `DOCS_RS` is set).
 
 use std::env;
-use std::fs::OpenOptions;
+use std::fs::{OpenOptions, read_dir};
 use std::io::{BufRead, BufReader, Write};
 use std::path::{Path, PathBuf};
 use std::process::{Command, Stdio, exit};
@@ -71,8 +71,16 @@ fn make(root: &Path) -> bool {
 /// The repository's folder, with the library made there.
 fn repository() -> Option<PathBuf> {
     let root = root()?;
-    for source in ["archive", "build", "crates", "crates.txt", "target/staticlib"] {
+    for source in ["archive", "build", "crates.txt", "target/staticlib"] {
         println!("cargo::rerun-if-changed={}", root.join(source).display());
+    }
+    // A crate's folder out/ is written by every proof.
+    for folder in read_dir(root.join("crates")).into_iter().flatten().flatten() {
+        for part in ["src", "specs", "proofs"].map(|part| folder.path().join(part)) {
+            if part.is_dir() {
+                println!("cargo::rerun-if-changed={}", part.display());
+            }
+        }
     }
     if make(&root) {
         return Some(root.join("target/staticlib"));
