@@ -80,5 +80,5 @@ build_over_ci() { # NAME
     done
     mkdir -p "$root/crates/$1/out"
     cd -- "$root/crates/$1" && "$kit/bin/rattle" build --crate-name "$1" src/lib.rt "${words[@]}" -L "dependency=$kit/rlibs" --antt-project "$kit/rattle/logic/antt-project.json" \
-        --logic-built "$kit/logic_built" --jobs 1 --links "$1=" --crate-type staticlib --toolchain "$kit/toolchain" --backend llvm -o "out/lib$1.a"
+        --logic-built "$kit/logic_built" --jobs 1 --links "$1=" --crate-type staticlib --cpu x86-64 --toolchain "$kit/toolchain" --backend llvm -o "out/lib$1.a"
 }
