@@ -65,13 +65,13 @@ progress() { # OF LOG
 }
 
 # Builds the static library of the crate NAME over the libraries that rt ci has just proved and left in crates/*/out, by the words that rt gives to rattle. (`rt lib`
-# proves each of those again first, since no stamp stands beside what rt ci leaves.)
+# proves each of those again first, since no stamp stands beside what rt ci leaves. Where one does, rt check has worked in the checkout, and rt lib has little to do.)
 build_over_ci() { # NAME
     local kit name used=no uses words=()
     kit=$(dirname -- "$(rt doc)")
     while IFS=: read -r name uses; do
         [ "$name" = "$1" ] && used=$uses && continue
-        [ -d "$root/crates/$name/out/rlib/$name.rlib" ] || return
+        { [ -d "$root/crates/$name/out/rlib/$name.rlib" ] && [ ! -e "$root/crates/$name/out/rlib/stamp" ]; } || return
         words+=(-L "dependency=$root/crates/$name/out/rlib")
     done < <(reached "$1")
     [ "$used" != no ] || return
