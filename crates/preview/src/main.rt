@@ -54,7 +54,7 @@ fn say_error(rt: &HostRuntime, what: &[u8], error: &io::Error) {
     say(rt, b"\n");
 }
 
-// What stands before " (os error 2)", or else before the zeros.
+// What stands before the number that std puts behind the words of an error, or else before the zeros.
 fn words_of_error(text: &[u8]) -> &[u8] {
     let number = up_to(text, b'(');
     if number == 0 {
