@@ -1,7 +1,7 @@
 -- A refusal is handed on with its number; else the plane's length decides. Assumes nothing.
 use Prim.Native.Nat.{◌*◌}
 use mathlib.Core.Path.{sym, ◌∙◌}
-use mathlib.Core.List.{◌∷◌}
+use mathlib.Core.List.{[], ◌∷◌}
 use native.Mathlib.Omega.{arith}
 use Rattle.pixels.specs.declared.Refusal.TheVariants.{PixelBufferMismatch}
 use Rattle.pixels.specs.Refusals.{other_length}

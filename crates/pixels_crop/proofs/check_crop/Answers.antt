@@ -1,6 +1,6 @@
 -- A refusal of the sizes is handed on with its number; else the two lengths decide, in their order. Assumes nothing.
 use mathlib.Core.Path.{sym, ◌∙◌}
-use mathlib.Core.List.{List, ◌∷◌}
+use mathlib.Core.List.{[], List, ◌∷◌}
 use Rattle.pixels.specs.declared.Refusal.TheVariants.{PixelBufferMismatch, OutputLength}
 use Rattle.pixels.specs.Refusals.{Cause, other_length}
 use Rattle.pixels.specs.Sizes.{pixel_lanes, picture_bytes, sizes_causes, sizes_number}
