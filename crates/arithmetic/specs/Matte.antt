@@ -45,7 +45,7 @@ mult_argb argb inverse =
 unfoldable pub restore_factors : List ℕ
 restore_factors = tabulate (λ i. restore_factor (suc i)) 254
 
--- a colour c under alpha a, restored by any list in the place of the factors; above its alpha, c counts as a. By SCOPE's factors that is the cut at 255 (`Lent-is`).
+-- a colour c under alpha a, restored by any list in the place of the factors; above its alpha, c counts as a. By SCOPE's factors that is the cut at 255 (`lent_is`).
 unfoldable pub restored_by : List ℕ → ℕ → ℕ → ℕ
 restored_by factors c a =
     cond (a == 255) c (cond (a == 0) 0 (scale_colour (min c a) (slice_index factors (a - 1))))

@@ -73,14 +73,14 @@ module _ (p q : Plan) where
       unfolding alike
       other_layout e = simp (eq-eqb _ _ w, eq-eqb _ _ h, sym layout_is ∙ not_true a e)
 
-      module _ (same_layout : not a ≡ false) (b : Bool) (kind_is : b ≡ same_kind q.kind p.kind) where
+      module _ (layout_same : not a ≡ false) (b : Bool) (kind_is : b ≡ same_kind q.kind p.kind) where
         pub other_kind_lem : not b ≡ true → false ≡ alike p q
         unfolding alike
-        other_kind_lem e = simp (eq-eqb _ _ w, eq-eqb _ _ h, sym layout_is ∙ not_false a same_layout, sym kind_is ∙ not_true b e)
+        other_kind_lem e = simp (eq-eqb _ _ w, eq-eqb _ _ h, sym layout_is ∙ not_false a layout_same, sym kind_is ∙ not_true b e)
 
         pub lanes_decide : not b ≡ false → eqb (lanes_of q) (lanes_of p) ≡ alike p q
         unfolding alike
-        lanes_decide e = simp (eq-eqb _ _ w, eq-eqb _ _ h, sym layout_is ∙ not_false a same_layout, sym kind_is ∙ not_false b e)
+        lanes_decide e = simp (eq-eqb _ _ w, eq-eqb _ _ h, sym layout_is ∙ not_false a layout_same, sym kind_is ∙ not_false b e)
 
 -- ---- the jobs of a group
 abbrev pub unlike : List Job → ℕ → Bool
