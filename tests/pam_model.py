@@ -4,8 +4,8 @@ before crates/pam_trials ran: numbers are of any length, and lines and words are
 from the library: the comment at PamHeader.
 
   tests/pam_model.py FILE..     a line for each FILE: its name and the answers
-  tests/pam_model.py LIST.rt..  a line for each trial in the calls each(b"..") of a source file: a tilde ends a trial, its first line is its name;
-                                and for each call length(..) and written(..) of the writer
+  tests/pam_model.py LIST.rt..  a line for each trial in the calls each(rt, b"..") of a source file: a tilde ends a trial, its first line is its name;
+                                and for each call length(rt, ..) and written(rt, ..) of the writer
 
 The answers: that to the header alone, a bar, that to the whole input. Of a header: its number, or the size and the place of the first byte after it;
 'unfinished' where the first line is there, every line so far is inside the form, and the end is still to come. Of the whole: its number, or the size and the
@@ -131,7 +131,7 @@ def bytes_of(text):
 def lines_in(source):
     """A line for each trial of a source file, in the order in which they stand."""
     text = r'b"((?:[^"\\]|\\.)*)"'
-    calls = rf"\beach\(\s*{text},?\s*\)|\blength\((\d+), (\d+)\)|\bwritten\(\s*(\d+),\s*(\d+),\s*{text},\s*&mut \[(\d+); (\d+)\],?\s*\)"
+    calls = rf"\beach\(\s*rt,\s*{text},?\s*\)|\blength\(rt, (\d+), (\d+)\)|\bwritten\(\s*rt,\s*(\d+),\s*(\d+),\s*{text},\s*&mut \[(\d+); (\d+)\],?\s*\)"
     for call in re.finditer(calls, source, re.DOTALL):
         listed, *rest = call.groups()
         if listed is not None:
