@@ -12,7 +12,7 @@ import re
 import sys
 
 PROOFS = ("Proof.antt", "Answers.antt", "Invariants.antt")
-NAMED = re.compile(r"^( *(?:abbrev |unfoldable )?(?:pub )?)([^\s:(){}=|]+) :(?!:)\s")
+NAMED = re.compile(r"^( *(?:abbrev |unfoldable )?(?:pub )?)([^\s:(){}=|]+) :(?!:)(?:\s|$)")
 DECLARED = re.compile(r"^(?:abbrev )?(?:pub )?(?:record|data) ")
 FIELD = re.compile(r"^ +(?:pub )?([^\s:(){}=|]+) :\s")
 TOKEN = re.compile(r"[^\s(){}\[\].;,«»⌜⌝\"`/]+")
@@ -49,7 +49,7 @@ def own_names():
     """What the repository defines in antt, outside the proofs of functions."""
     found = set()
     for path in files(".antt"):
-        if os.path.basename(path) in PROOFS:
+        if os.path.basename(path) in PROOFS and path.count("/") > 3:
             continue
         inside = False
         for line in read(path).split("\n"):
@@ -143,7 +143,7 @@ def edit(text, to, crate):
 
 def main():
     to, lemmas = table()
-    if len(to) < 100:
+    if not to:
         print("respell: the names are spelled already", file=sys.stderr)
         return 1
     turned = {}

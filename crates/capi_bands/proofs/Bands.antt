@@ -12,7 +12,7 @@ use Rattle.job_rules.specs.Rules.{bad_record}
 use Rattle.job.specs.declared.Job.{Job}
 use Rattle.job.specs.declared.Offered.{Offered}
 use Rattle.job.specs.declared.Offered.TheVariants as offered
-use Rattle.job.specs.Answers.{offeredNumber, offeredRows, offeredJob}
+use Rattle.job.specs.Answers.{offered_number, offered_rows, offered_job}
 use Rattle.job.specs.Record.{lawful}
 use Rattle.job_band.specs.Bands.{next_band, band_number, band_accepted, band_job, band_work}
 use Rattle.capi_record.specs.declared.Told.{Told}
@@ -85,7 +85,7 @@ module _ (words rows work count : List ℕ) (lent : 1 ≤ length count) where
   unfolding number_of_band record_after_band work_after_band count_after_band
   band_no_record r e f h = offers.none_told words work count lent number_of rows_of next_of work_of r e f h
 
-  module _ (j : Job) {t : Told} (e : t ≡ told_by words) (f : t ≡ told.Job j) (answer : Offered) (m : offeredNumber answer ≡ number_of j)
+  module _ (j : Job) {t : Told} (e : t ≡ told_by words) (f : t ≡ told.Job j) (answer : Offered) (m : offered_number answer ≡ number_of j)
       (next : List ℕ) (w : next ≡ band_work j rows work) where
     once : next ≡ buffer_if (number_of j) (work_of j) work
     unfolding band_work
@@ -98,8 +98,8 @@ module _ (words rows work count : List ℕ) (lent : 1 ≤ length count) where
     unfolding number_of_band record_after_band work_after_band count_after_band
     band_refused why job r a h = offers.offer_refused words work count lent number_of rows_of next_of work_of j e f answer m next once why job r a h
 
-    pub band_accepted_lem : (n : ℕ) (job : Job) (words' count' : List ℕ) → answer ≡ offered.Accepted n job → offeredRows answer ≡ rows_of j
-        → offeredJob answer ≡ next_of j → words' ≡ stored_job job words → count' ≡ stored_word n count
+    pub band_accepted_lem : (n : ℕ) (job : Job) (words' count' : List ℕ) → answer ≡ offered.Accepted n job → offered_rows answer ≡ rows_of j
+        → offered_job answer ≡ next_of j → words' ≡ stored_job job words → count' ≡ stored_word n count
         → (0 ≡ number_of_band words (length rows) (length work) (length count))
         × ((words' ≡ record_after_band words (length rows) (length work) (length count))
         × ((next ≡ work_after_band words rows work (length count)) × (count' ≡ count_after_band words (length rows) (length work) count)))

@@ -15,7 +15,7 @@ use Rattle.job.specs.declared.Offered.{Offered}
 use Rattle.job.specs.declared.Offered.TheVariants as offered
 use Rattle.job.specs.declared.Taken.{Taken}
 use Rattle.job.specs.declared.Taken.TheVariants as taken
-use Rattle.job.specs.Answers.{offeredNumber, offeredRows, offeredJob, takenNumber, takenJob}
+use Rattle.job.specs.Answers.{offered_number, offered_rows, offered_job, taken_number, taken_job}
 use Rattle.job.specs.Record.{fresh}
 use Rattle.job.specs.Calls.{offer_number, offer_rows, offer_job, offer_work, take_number, take_job, take_out, take_work}
 use Rattle.job_start.specs.declared.Started.{Started}
@@ -82,7 +82,7 @@ module _ (words rows work count : List ℕ) (lent : 1 ≤ length count) where
   offer_no_record r e f h = offers.none_told words work count lent number_of rows_of next_of work_of r e f h
 
   -- to the job j that the words tell
-  module _ (j : Job) {t : Told} (e : t ≡ told_by words) (f : t ≡ told.Job j) (answer : Offered) (m : offeredNumber answer ≡ number_of j)
+  module _ (j : Job) {t : Told} (e : t ≡ told_by words) (f : t ≡ told.Job j) (answer : Offered) (m : offered_number answer ≡ number_of j)
       (next : List ℕ) (w : next ≡ offer_work j rows work) where
     once : next ≡ buffer_if (number_of j) (work_of j) work
     unfolding offer_work
@@ -95,8 +95,8 @@ module _ (words rows work count : List ℕ) (lent : 1 ≤ length count) where
     unfolding number_of_offer record_after_offer work_after_offer count_after_offer
     offer_refused why job r a h = offers.offer_refused words work count lent number_of rows_of next_of work_of j e f answer m next once why job r a h
 
-    pub offer_accepted : (n : ℕ) (job : Job) (words' count' : List ℕ) → answer ≡ offered.Accepted n job → offeredRows answer ≡ rows_of j
-        → offeredJob answer ≡ next_of j → words' ≡ stored_job job words → count' ≡ stored_word n count
+    pub offer_accepted : (n : ℕ) (job : Job) (words' count' : List ℕ) → answer ≡ offered.Accepted n job → offered_rows answer ≡ rows_of j
+        → offered_job answer ≡ next_of j → words' ≡ stored_job job words → count' ≡ stored_word n count
         → (0 ≡ number_of_offer words (length rows) (length work) (length count))
         × ((words' ≡ record_after_offer words (length rows) (length work) (length count))
         × ((next ≡ work_after_offer words rows work (length count)) × (count' ≡ count_after_offer words (length rows) (length work) count)))
@@ -116,7 +116,7 @@ take_no_record words out work r e f h =
 
 -- ---- take from the job j that the words tell
 module _ (words out work out' work' : List ℕ) (j : Job) {t : Told} (e : t ≡ told_by words) (f : t ≡ told.Job j) (answer : Taken)
-    (m : takenNumber answer ≡ take_number j (length out) (length work)) (o : out' ≡ take_out j out work) (w : work' ≡ take_work j (length out) work) where
+    (m : taken_number answer ≡ take_number j (length out) (length work)) (o : out' ≡ take_out j out work) (w : work' ≡ take_work j (length out) work) where
   told_by_lem : j ≡ words_job words
   told_by_lem = sym (job_legal words j (sym e ∙ f)).1
 
@@ -146,7 +146,7 @@ module _ (words out work out' work' : List ℕ) (j : Job) {t : Told} (e : t ≡ 
       let z : number why ≡ number_of_take words (length out) (length work) = (rw a at m) ∙ take_number_lem in
       (h ∙ z, (kept_by why _ _ words (sym z), (out_is, left_is)))
 
-  pub take_wrote : (job : Job) (words' : List ℕ) → answer ≡ taken.Wrote job → takenJob answer ≡ take_job j (length out) work → words' ≡ stored_job job words
+  pub take_wrote : (job : Job) (words' : List ℕ) → answer ≡ taken.Wrote job → taken_job answer ≡ take_job j (length out) work → words' ≡ stored_job job words
       → (0 ≡ number_of_take words (length out) (length work))
       × ((words' ≡ record_after_take words (length out) work) × ((out' ≡ out_after_take words out work) × (work' ≡ work_after_take words (length out) work)))
   unfolding record_after_take

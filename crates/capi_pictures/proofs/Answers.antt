@@ -16,13 +16,13 @@ use Rattle.capi_words.specs.Boundary.{boundary_first, stored_flag, stored_size}
 use Rattle.capi_words.proofs.Boundary.{kept_by, written_by, passed}
 
 -- ---- a flag
-pub flag-refused : (answer : Flagged) (why : Refusal) (r : ℕ) (kept : List ℕ) → answer ≡ flagged.Refused why → r ≡ number why
+pub flag_refused : (answer : Flagged) (why : Refusal) (r : ℕ) (kept : List ℕ) → answer ≡ flagged.Refused why → r ≡ number why
     → (r ≡ flagged_number answer) × (kept ≡ buffer_if (flagged_number answer) (stored_flag (flagged_flag answer) kept) kept)
-flag-refused answer why r kept e f = (rw e f, kept_by why (flagged_number answer) _ kept (rw e refl))
+flag_refused answer why r kept e f = (rw e f, kept_by why (flagged_number answer) _ kept (rw e refl))
 
-pub flag-stored : (answer : Flagged) (flag : Bool) (word : ℕ) (words kept : List ℕ) → answer ≡ flagged.Flag flag → word ≡ flag_word flag → words ≡ stored (word ∷ []) kept
+pub flag_stored : (answer : Flagged) (flag : Bool) (word : ℕ) (words kept : List ℕ) → answer ≡ flagged.Flag flag → word ≡ flag_word flag → words ≡ stored (word ∷ []) kept
     → (0 ≡ flagged_number answer) × (words ≡ buffer_if (flagged_number answer) (stored_flag (flagged_flag answer) kept) kept)
-flag-stored answer flag word words kept e f s = (rw e refl, rw e (rw f at s))
+flag_stored answer flag word words kept e f s = (rw e refl, rw e (rw f at s))
 
 same_flag : (b flag : Bool) (kept : List ℕ) → cond b (stored_flag (cond b flag false) kept) kept ≡ cond b (stored_flag flag kept) kept
 same_flag true flag kept = refl
@@ -30,8 +30,8 @@ same_flag false flag kept = refl
 
 -- what a call that answers by a flag comes to, where it passed the boundary's test t: x is the library's number
 module _ {t b : Bool} (x : ℕ) (e : t ≡ b) (f : t ≡ false) (answer : Flagged) (m : flagged_number answer ≡ x) where
-  pub flag-number : (r : ℕ) → r ≡ flagged_number answer → r ≡ boundary_first b x
-  flag-number r s = s ∙ m ∙ passed x e f
+  pub flag_number : (r : ℕ) → r ≡ flagged_number answer → r ≡ boundary_first b x
+  flag_number r s = s ∙ m ∙ passed x e f
 
   pub flag_told : (flag : Bool) (words kept : List ℕ) → flagged_flag answer ≡ flag_if x flag → words ≡ buffer_if (flagged_number answer) (stored_flag (flagged_flag answer) kept) kept
       → words ≡ buffer_if (boundary_first b x) (stored_flag flag kept) kept
@@ -39,14 +39,14 @@ module _ {t b : Bool} (x : ℕ) (e : t ≡ b) (f : t ≡ false) (answer : Flagge
 
 -- ---- a size: n is the number told, x the library's
 module _ (answer : Sized) (n x : ℕ) (size : Dimensions) (p : x ≡ n) (m : sized_number answer ≡ x) where
-  pub size-refused : (why : Refusal) (r : ℕ) (kept : List ℕ) → answer ≡ sized.Refused why → r ≡ number why → (r ≡ n) × (kept ≡ buffer_if n (stored_size size kept) kept)
-  size-refused why r kept e f =
+  pub size_refused : (why : Refusal) (r : ℕ) (kept : List ℕ) → answer ≡ sized.Refused why → r ≡ number why → (r ≡ n) × (kept ≡ buffer_if n (stored_size size kept) kept)
+  size_refused why r kept e f =
       let z : number why ≡ n = (rw e at m) ∙ p in
       (f ∙ z, kept_by why n _ kept (sym z))
 
-  pub size-stored : (d : Dimensions) (words kept : List ℕ) → answer ≡ sized.Size d → sized_size answer ≡ size_if x size → words ≡ stored_size d kept
+  pub size_stored : (d : Dimensions) (words kept : List ℕ) → answer ≡ sized.Size d → sized_size answer ≡ size_if x size → words ≡ stored_size d kept
       → (0 ≡ n) × (words ≡ buffer_if n (stored_size size kept) kept)
-  size-stored d words kept e s w =
+  size_stored d words kept e s w =
       let z : 0 ≡ x = rw e at m in
       let q : d ≡ size = rw (e, ← z) at s in
       (z ∙ p, written_by n words _ kept (z ∙ p) (w ∙ rw q refl))

@@ -17,7 +17,7 @@ use Rattle.capi_words.specs.Words.{word_layout}
 use Rattle.capi_words.specs.Boundary.{boundary, misused, stored_flag}
 use Rattle.capi_words.proofs.Boundary.{misuse_told, misuse_kept, passed, buffer_told}
 use Rattle.capi_pictures.specs.Pictures.{number_of_has_alpha, flag_after_has_alpha, number_of_crop, out_after_crop, flag_after_crop, number_of_resize, out_after_resize, work_after_resize, flag_after_resize, number_of_plane, pixels_after_plane, flag_after_plane}
-use Rattle.capi_pictures.proofs.Answers.{flag-number, flag_told}
+use Rattle.capi_pictures.proofs.Answers.{flag_number, flag_told}
 
 -- what store_flag made of an answer: the number r, and the lent word
 abbrev pub Stored : Flagged → ℕ → List ℕ → List ℕ → Type 0
@@ -36,7 +36,7 @@ module _ (w h layout : ℕ) (pixels flag : List ℕ) {t : Bool} (e : t ≡ misus
     pub has_alpha_told : flagged_flag answer ≡ flag_if (picture_number (size_of w h) (length pixels)) (has_alpha l pixels (w * h))
         → (r : ℕ) (flag' : List ℕ) → Stored answer r flag' flag → HasAlpha r flag'
     unfolding number_of_has_alpha flag_after_has_alpha
-    has_alpha_told g r flag' s = (flag-number _ e f answer m r s.0, flag_told _ e f answer m _ flag' flag (rw is at g) s.1)
+    has_alpha_told g r flag' s = (flag_number _ e f answer m r s.0, flag_told _ e f answer m _ flag' flag (rw is at g) s.1)
 
 -- ---- jonquilsaw_crop
 module _ (sw sh layout x y cw ch : ℕ) (pixels out flag : List ℕ) {t : Bool} (e : t ≡ misused layout (length flag) 1) where
@@ -59,7 +59,7 @@ module _ (sw sh layout x y cw ch : ℕ) (pixels out flag : List ℕ) {t : Bool} 
         → (r : ℕ) (flag' : List ℕ) → Stored answer r flag' flag → Crop r out' flag'
     unfolding number_of_crop out_after_crop flag_after_crop
     crop_told g out' o r flag' s =
-        (flag-number _ e f answer m r s.0, (buffer_told _ _ out' _ out (passed _ e f) o, flag_told _ e f answer m _ flag' flag (rw is at g) s.1))
+        (flag_number _ e f answer m r s.0, (buffer_told _ _ out' _ out (passed _ e f) o, flag_told _ e f answer m _ flag' flag (rw is at g) s.1))
 
 -- ---- jonquilsaw_resize
 module _ (sw sh layout tw th : ℕ) (pixels out work flag : List ℕ) {t : Bool} (e : t ≡ misused layout (length flag) 1) where
@@ -85,7 +85,7 @@ module _ (sw sh layout tw th : ℕ) (pixels out work flag : List ℕ) {t : Bool}
     unfolding number_of_resize out_after_resize work_after_resize flag_after_resize
     resize_told g out' work' o w r flag' s =
         let p = passed theirs e f in
-        (flag-number _ e f answer m r s.0, (buffer_told _ _ out' _ out p (rw is at o), (buffer_told _ _ work' _ work p (rw is at w), flag_told _ e f answer m _ flag' flag (rw is at g) s.1)))
+        (flag_number _ e f answer m r s.0, (buffer_told _ _ out' _ out p (rw is at o), (buffer_told _ _ work' _ work p (rw is at w), flag_told _ e f answer m _ flag' flag (rw is at g) s.1)))
 
 -- ---- jonquilsaw_apply_alpha_plane
 module _ (w h layout : ℕ) (pixels plane flag : List ℕ) {t : Bool} (e : t ≡ misused layout (length flag) 1) where
@@ -105,4 +105,4 @@ module _ (w h layout : ℕ) (pixels plane flag : List ℕ) {t : Bool} (e : t ≡
         → (r : ℕ) (flag' : List ℕ) → Stored answer r flag' flag → Plane r pixels' flag'
     unfolding number_of_plane pixels_after_plane flag_after_plane
     plane_told g pixels' o r flag' s =
-        (flag-number _ e f answer m r s.0, (buffer_told _ _ pixels' _ pixels (passed _ e f) (rw is at o), flag_told _ e f answer m _ flag' flag (rw is at g) s.1))
+        (flag_number _ e f answer m r s.0, (buffer_told _ _ pixels' _ pixels (passed _ e f) (rw is at o), flag_told _ e f answer m _ flag' flag (rw is at g) s.1))

@@ -12,7 +12,7 @@ use Rattle.pixels.specs.Refusals.{number, buffer_if}
 use Rattle.job.specs.declared.Job.{Job}
 use Rattle.job.specs.declared.Offered.{Offered}
 use Rattle.job.specs.declared.Offered.TheVariants as offered
-use Rattle.job.specs.Answers.{offeredNumber, offeredRows, offeredJob}
+use Rattle.job.specs.Answers.{offered_number, offered_rows, offered_job}
 use Rattle.capi_words.specs.Boundary.{boundary_first, stored_word}
 use Rattle.capi_words.proofs.Boundary.{kept_by, written_by, buffer_told}
 use Rattle.capi_record.specs.declared.Told.{Told}
@@ -47,7 +47,7 @@ module _ (words work count : List ℕ) (lent : 1 ≤ length count) (number_of_le
       (z, (kept_by InvalidRecord n _ words k, (kept_by InvalidRecord n _ work k, kept_by InvalidRecord n _ count k)))
 
   -- to the job j that the words tell
-  module _ (j : Job) {t : Told} (e : t ≡ told_by words) (f : t ≡ told.Job j) (answer : Offered) (m : offeredNumber answer ≡ number_of_lem j)
+  module _ (j : Job) {t : Told} (e : t ≡ told_by words) (f : t ≡ told.Job j) (answer : Offered) (m : offered_number answer ≡ number_of_lem j)
       (next : List ℕ) (w : next ≡ buffer_if (number_of_lem j) (work_of j) work) where
     same : j ≡ words_job words
     same = sym (job_legal words j (sym e ∙ f)).1
@@ -65,8 +65,8 @@ module _ (words work count : List ℕ) (lent : 1 ≤ length count) (number_of_le
         let z : number why ≡ n = (rw a at m) ∙ number_is in
         (h ∙ z, (kept_by why n _ words (sym z), (work_is, kept_by why n _ count (sym z))))
 
-    pub offer_accepted : (rows : ℕ) (job : Job) (words' count' : List ℕ) → answer ≡ offered.Accepted rows job → offeredRows answer ≡ rows_of_lem j
-        → offeredJob answer ≡ next_of j → words' ≡ stored_job job words → count' ≡ stored_word rows count → Answer 0 words' next count'
+    pub offer_accepted : (rows : ℕ) (job : Job) (words' count' : List ℕ) → answer ≡ offered.Accepted rows job → offered_rows answer ≡ rows_of_lem j
+        → offered_job answer ≡ next_of j → words' ≡ stored_job job words → count' ≡ stored_word rows count → Answer 0 words' next count'
     offer_accepted rows job words' count' a c o s u =
         let z : 0 ≡ n = (rw a at m) ∙ number_is in
         let x : rows ≡ rows_of_lem (words_job words) = rw (a, same) at c in

@@ -3,7 +3,7 @@
 
 ghost use Rattle.std.specs.Prelude.{◌≡◌, length, set};
 ghost use Rattle.pixels.specs.Refusals.{checked_number};
-ghost use Rattle.job.specs.Answers.{takenJob};
+ghost use Rattle.job.specs.Answers.{taken_job};
 ghost use Rattle.job.specs.Calls as job;
 ghost use Rattle.group_parts.specs.Parts.{part_at, put_at};
 ghost use Rattle.group_rules.specs.Group.{job_at, needs, total};
@@ -26,7 +26,7 @@ pub struct TakenGroup {
 // ---- a row goes out
 
 fn taken_job(t: Taken) -> Job
-    ensures { result ≡ takenJob t }
+    ensures { result ≡ taken_job t }
 {
     match t {
         Taken::Wrote { job: j } => j,

@@ -4,7 +4,7 @@
 
 ghost use Rattle.std.specs.Prelude.{◌≡◌, ◌||◌, length};
 ghost use Rattle.pixels.specs.Refusals.{flagged_flag};
-ghost use Rattle.job.specs.Answers.{offeredNumber, offeredRows, offeredJob, takenNumber, takenJob};
+ghost use Rattle.job.specs.Answers.{offered_number, offered_rows, offered_job, taken_number, taken_job};
 ghost use Rattle.job.specs.Record.{lawful, ready_of, Rules};
 ghost use Rattle.job.specs.Calls.{most_rows, fed, count, offer_number, offer_rows, offer_job, offer_work, take_number, more_taken, row_taken, work_taken, take_job, take_out, take_work};
 
@@ -140,9 +140,9 @@ impl Job {
     // Offers one or more whole source rows; returns how many were accepted.
     // Rules out: an offer that goes on past the first row that makes an output row ready; a count that was not fed; rows fed that the record does not count.
     pub fn offer(mut self, rows: &[u8], work: &mut [u32]) -> Offered
-        ensures number { offeredNumber result ≡ offer_number self (length rows.now) (length work.old) }
-        ensures rows { offeredRows result ≡ offer_rows self (length rows.now) (length work.old) }
-        ensures job { offeredJob result ≡ offer_job self (length rows.now) (length work.old) }
+        ensures number { offered_number result ≡ offer_number self (length rows.now) (length work.old) }
+        ensures rows { offered_rows result ≡ offer_rows self (length rows.now) (length work.old) }
+        ensures job { offered_job result ≡ offer_job self (length rows.now) (length work.old) }
         ensures work { work.new ≡ offer_work self rows.now work.old }
     {
         let checked = check_offer(
@@ -170,8 +170,8 @@ impl Job {
     // Takes the next output row; its alpha flag joins the record's.
     // Rules out: a row skipped; a take that advances and writes nothing; the flag of the row just taken dropped.
     pub fn take(mut self, out: &mut [u8], work: &mut [u32]) -> Taken
-        ensures number { takenNumber result ≡ take_number self (length out.old) (length work.old) }
-        ensures job { takenJob result ≡ take_job self (length out.old) work.old }
+        ensures number { taken_number result ≡ take_number self (length out.old) (length work.old) }
+        ensures job { taken_job result ≡ take_job self (length out.old) work.old }
         ensures out { out.new ≡ take_out self out.old work.old }
         ensures work { work.new ≡ take_work self (length out.old) work.old }
     {

@@ -6,7 +6,7 @@ ghost use Rattle.std.specs.Prelude.{◌≡◌, not, ◌||◌, eqb, length};
 ghost use Rattle.pixels.specs.Refusals.{checked_number};
 ghost use Rattle.job.specs.Record.{Rules};
 ghost use Rattle.job.specs.Inner.{RowAsks};
-ghost use Rattle.job.specs.Answers.{offeredNumber, offeredRows, offeredJob};
+ghost use Rattle.job.specs.Answers.{offered_number, offered_rows, offered_job};
 ghost use Rattle.job.specs.Calls.{offer_work};
 ghost use Rattle.job_band.specs.Bands.{band_rows, next_band, band_number, band_accepted, band_job, band_work};
 ghost use Rattle.job_band.specs.Inner.{second_put};
@@ -134,9 +134,9 @@ fn add_band(j: Job, rows: &[u8], work: &mut [u32]) -> u32
 // Offers the rows of the next band, top row first; they are added from last to first.
 // Rules out: 17 told of a record that breaks the rules; an empty stretch let pass; the second half left with the band's first row; rows added that the record does not count.
 pub fn offer_band(j: Job, rows: &[u8], work: &mut [u32]) -> Offered
-    ensures number { offeredNumber result ≡ band_number j (length rows.now) (length work.old) }
-    ensures rows { offeredRows result ≡ band_accepted j (length rows.now) (length work.old) }
-    ensures job { offeredJob result ≡ band_job j (length rows.now) (length work.old) }
+    ensures number { offered_number result ≡ band_number j (length rows.now) (length work.old) }
+    ensures rows { offered_rows result ≡ band_accepted j (length rows.now) (length work.old) }
+    ensures job { offered_job result ≡ band_job j (length rows.now) (length work.old) }
     ensures work { work.new ≡ band_work j rows.now work.old }
 {
     let checked = check_band(j, rows.len(), work.len());

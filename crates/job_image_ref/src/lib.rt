@@ -21,8 +21,8 @@ pub struct ImageRef<'a> {
     pub pixels: &'a [u8],
 }
 
-// What `new` answers: the picture, and whether its size and its length pass. An enum cannot hold a reference, so the picture is there in each case; one that does
-// not pass is refused again wherever it is used.
+// What `new` answers: the picture, and whether its size and its length pass. The picture is there in each case; one that does not pass is refused again wherever it
+// is used.
 #[derive(Clone, Copy)]
 pub struct Borrowed<'a> {
     pub checked: Checked,

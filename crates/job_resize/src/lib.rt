@@ -5,7 +5,7 @@ ghost use Rattle.std.specs.Prelude.{◌≡◌, ◌+◌, ◌*◌, ◌≤◌, leng
 ghost use Rattle.pixels.specs.Refusals.{checked_number, flagged_number, flagged_flag};
 ghost use Rattle.pixels.specs.Sizes.{row_bytes};
 ghost use Rattle.job_rules.specs.Rules.{lanes_of};
-ghost use Rattle.job.specs.Answers.{offeredJob, takenJob};
+ghost use Rattle.job.specs.Answers.{offered_job, taken_job};
 ghost use Rattle.job.specs.Calls.{take_job, take_work};
 ghost use Rattle.job_resize.specs.Resize.{resize_number, resize_flag, resize_out, resize_work};
 ghost use Rattle.job_resize.specs.Inner.{emitted_out, Asked, Driven, fed_job, fed_work};
@@ -19,7 +19,7 @@ use pixels_sizes::{check_sizes, wrong_length};
 
 // The next record of an answer, whichever it is.
 fn after_offer(answer: Offered) -> Job
-    ensures { result ≡ offeredJob answer }
+    ensures { result ≡ offered_job answer }
 {
     match answer {
         Offered::Accepted { rows: _, job } => job,
@@ -28,7 +28,7 @@ fn after_offer(answer: Offered) -> Job
 }
 
 fn after_take(answer: Taken) -> Job
-    ensures { result ≡ takenJob answer }
+    ensures { result ≡ taken_job answer }
 {
     match answer {
         Taken::Wrote { job } => job,

@@ -49,10 +49,10 @@ module _ (size : Dimensions) where
       ∙ append_assoc before w (between ++ (h ++ after))
       ∙ sym pieces
 
-  pub all-put :
+  pub all_put :
       (o o1 o2 o3 o4 o5 : List ℕ) (a b : ℕ) → length o ≡ length (heading size) → o1 ≡ put_at o 0 before → o2 ≡ put_at o1 9 w → a ≡ 9 + length w → o3 ≡ put_at o2 a between → o4 ≡ put_at o3 (a + 8) h
       → b ≡ a + 8 + length h → o5 ≡ put_at o4 b after → o5 ≡ heading size
-  all-put o o1 o2 o3 o4 o5 a b long e1 e2 ea e3 e4 eb e5 =
+  all_put o o1 o2 o3 o4 o5 a b long e1 e2 ea e3 e4 eb e5 =
       let l1 = length-append before w in
       let l2 = length-append (before ++ w) between in
       let l3 = length-append ((before ++ w) ++ between) h in

@@ -80,13 +80,13 @@ two_more keyword.End x a y b others = rw (eqb-suc-zero (length a)) refl
 two_more keyword.Other x a y b others = refl
 
 -- a is the first of the words ws, b the first of those after it
-said-by :
+said_by :
     (k : Keyword) (a b : List ℕ) (ws vs others : List (List ℕ)) → ws ≡ closed a vs → (length a ≡ 0 → ws ≡ []) → vs ≡ closed b others → (length b ≡ 0 → vs ≡ [])
     → said_of k a b ≡ held (says_by k ws)
-said-by k [] b ws vs others e n f m = none_more k b ∙ sym (ap (λ (w : List (List ℕ)). held (says_by k w)) (n refl))
-said-by k (x ∷ a) [] ws vs others e n f m =
+said_by k [] b ws vs others e n f m = none_more k b ∙ sym (ap (λ (w : List (List ℕ)). held (says_by k w)) (n refl))
+said_by k (x ∷ a) [] ws vs others e n f m =
     one_more k x a ∙ sym (ap (λ (w : List (List ℕ)). held (says_by k w)) (e ∙ ap (closed (x ∷ a)) (m refl)))
-said-by k (x ∷ a) (y ∷ b) ws vs others e n f m =
+said_by k (x ∷ a) (y ∷ b) ws vs others e n f m =
     two_more k x a y b others ∙ sym (ap (λ (w : List (List ℕ)). held (says_by k w)) (e ∙ ap (closed (x ∷ a)) f))
 
 -- ---- the line
@@ -111,11 +111,11 @@ module _ (l : List ℕ) (plain : get_or l 0 0 ≡ 35 → ⊥) where
   pub says_blank : (w : List ℕ) → w ≡ word_of l → length w ≡ 0 → said.Nothing ≡ held (says l)
   says_blank w e z = sym (ap held (by_words ∙ ap words_say (no_words l (sym (ap length e) ∙ z))))
 
-  pub says-words :
+  pub says_words :
       (w rest a more b : List ℕ) (k : Keyword) → w ≡ word_of l → (length w ≡ 0 → ⊥) → k ≡ keyword_of w → rest ≡ past_word l → a ≡ word_of rest → more ≡ past_word rest → b ≡ word_of more
       → said_of k a b ≡ held (says l)
-  says-words w rest a more b k ew full ek er ea em eb =
-      let by = said-by k a b (words rest) (words more) (words (past_word more)) (word_first rest a more ea em) (λ z. no_words rest (sym (ap length ea) ∙ z)) (word_first more b (past_word more) eb refl) (λ z. no_words more (sym (ap length eb) ∙ z)) in
+  says_words w rest a more b k ew full ek er ea em eb =
+      let by = said_by k a b (words rest) (words more) (words (past_word more)) (word_first rest a more ea em) (λ z. no_words rest (sym (ap length ea) ∙ z)) (word_first more b (past_word more) eb refl) (λ z. no_words more (sym (ap length eb) ∙ z)) in
       by ∙ sym (ap held (by_words ∙ ap words_say (word_first l w rest ew er) ∙ first w k full ek (words rest)))
     where
       word_first : (s v t : List ℕ) → v ≡ word_of s → t ≡ past_word s → words s ≡ closed v (words t)

@@ -108,11 +108,11 @@ module _ (size : Dimensions) where
         first_none (heading_causes size (length (take start out))) (lengths_are.0, (fits, tt))
 
     -- the header in its part, then the pixels behind it
-    pub file-written :
+    pub file_written :
         (k : ℕ) (part after last : List ℕ) → k ≡ heading_number size (length (take start out)) → part ≡ heading_out size (take start out) → after ≡ part ++ drop start out → last ≡ put_at after start pixels
         → (k ≡ write_number size (length pixels) (length out)) × (last ≡ write_out size pixels out)
     unfolding heading_out write_out
-    file-written k part after last ek ep ea el =
+    file_written k part after last ek ep ea el =
         let is : part ≡ heading size = ep ∙ simp heading_passes in
         let front : length part ≡ start = ap length is ∙ sym start_is in
         let joined : after ≡ heading size ++ drop start out = ea ∙ ap (λ (l : List ℕ). l ++ drop start out) is in

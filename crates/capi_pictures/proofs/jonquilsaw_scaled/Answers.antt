@@ -4,7 +4,7 @@ use lib.ListN.{length}
 use borrow.Author.Tests.{lt-ltb, le-ltb}
 use Rattle.capi_words.proofs.Boundary.{misuse_told, misuse_kept, passed}
 use Rattle.capi_pictures.specs.Pictures.{number_of_scaled, size_after_scaled}
-use Rattle.capi_pictures.proofs.Answers.{size-refused, size-stored}
+use Rattle.capi_pictures.proofs.Answers.{size_refused, size_stored}
 use Rattle.capi_pictures.proofs.jonquilsaw_scaled.Goals as goal
 
 pub returns-then-size-lt2 : goal.returns-then-size-lt2
@@ -23,7 +23,7 @@ returns-in-Refused c =
     let g = c.args in
     let f = le-ltb (length g.size.now) 2 c.if-size-lt2.false in
     let s = c.scaled-answer in
-    let both = size-refused s.result _ _ _ (passed _ refl f) s.ensures.number c.in-Refused.why c.number.result g.size.now c.in-Refused.is c.number.ensures in
+    let both = size_refused s.result _ _ _ (passed _ refl f) s.ensures.number c.in-Refused.why c.number.result g.size.now c.in-Refused.is c.number.ensures in
     record { number = both.0; size = both.1 }
 
 pub returns-in-Size : goal.returns-in-Size
@@ -32,5 +32,5 @@ returns-in-Size c =
     let g = c.args in
     let f = le-ltb (length g.size.now) 2 c.if-size-lt2.false in
     let s = c.scaled-answer in
-    let both = size-stored s.result _ _ _ (passed _ refl f) s.ensures.number c.in-Size.d _ g.size.now c.in-Size.is s.ensures.size c.store.ensures in
+    let both = size_stored s.result _ _ _ (passed _ refl f) s.ensures.number c.in-Size.d _ g.size.now c.in-Size.is s.ensures.size c.store.ensures in
     record { number = both.0; size = both.1 }

@@ -1,5 +1,5 @@
 -- Each way out is a law of what a line says. Assumes nothing.
-use Rattle.pam_line.proofs.Saying.{says_nothing, says_comment, says_blank, says-words}
+use Rattle.pam_line.proofs.Saying.{says_nothing, says_comment, says_blank, says_words}
 use mathlib.Core.Path.{◌∙◌}
 use Rattle.pam_line.proofs.line_says.Goals as goal
 
@@ -14,5 +14,5 @@ returns-then-w-eq0 c = says_blank _ c.if-line-eq35.false _ c.word-w.ensures c.if
 
 pub returns : goal.returns
 returns c =
-    let words = says-words c.args.line.now c.if-line-eq35.false _ _ _ _ _ _ c.word-w.ensures c.if-w-eq0.false c.keyword_of-keyword.ensures in
+    let words = says_words c.args.line.now c.if-line-eq35.false _ _ _ _ _ _ c.word-w.ensures c.if-w-eq0.false c.keyword_of-keyword.ensures in
     c.by_words.ensures ∙ words c.past-rest.ensures c.word-a.ensures c.past-more.ensures c.word-b.ensures

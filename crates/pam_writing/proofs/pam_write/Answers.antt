@@ -1,5 +1,5 @@
 -- A refusal is handed on; else the header is written into its part and the pixels are put behind it. Assumes nothing.
-use Rattle.pam_writing.proofs.Writing.{pixels_fit, part_long, file-written}
+use Rattle.pam_writing.proofs.Writing.{pixels_fit, part_long, file_written}
 use Rattle.pam_writing.specs.Writing.{write_out}
 use Rattle.pixels.proofs.Numbers.{buffer_refused}
 use mathlib.Core.Path.{sym, refl}
@@ -27,5 +27,5 @@ returns c =
     let g = c.args in
     let z = sym (rw c.in-Fit.is at c.check_write-checked.ensures) in
     let h = c.pam_write_header-header in
-    let both = file-written g.size g.pixels.now g.out.now z _ h.new.out _ _ h.ensures.number h.ensures.out refl c.put.ensures in
+    let both = file_written g.size g.pixels.now g.out.now z _ h.new.out _ _ h.ensures.number h.ensures.out refl c.put.ensures in
     record { number = both.0; out = both.1 }
