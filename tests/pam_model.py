@@ -1,7 +1,7 @@
 #!/usr/bin/env python3
 """A reader and a writer of PAM pictures in plain Python, to compare the library with. It was written from the grammar of the request, by somebody who had read the library,
 before crates/pam_trials ran: numbers are of any length, and lines and words are cut as the request says. Only 'unfinished', which the request does not have, is taken
-from the library: the comment at PamHeader.
+from the library: the comment at pam_header.
 
   tests/pam_model.py FILE..     a line for each FILE: its name and the answers
   tests/pam_model.py LIST.rt..  a line for each trial in the calls each(rt, b"..") of a source file: a tilde ends a trial, its first line is its name;

@@ -1,7 +1,8 @@
 -- Matting and restoring. The lanes of a pixel; one form of the scaled colour for every alpha, its bounds and monotony (MATHEMATICS 6); and from these
 -- the lanes of mult_argb, for every pixel: each colour scaled and cut at 255, the alpha kept. Assumes nothing.
-use Rattle.std.proofs.Common.{◌≡◌, ℕ, zero, suc, ◌+◌, ◌-◌, ◌*◌, ◌/◌, ◌%◌, ◌^◌, ◌<◌, ◌≤◌, min, Bool, true, false, List, get_or, sym, refl, ap, ◌∙◌, ap₂, ⊎_elim, le_trans, le_of_suc-le-suc, mul-le-mul_right, eq-zero-or-pos, eq-or-lt_of_le, div-le_self, arith, lt-ltb, eq-eqb, ne_eqb}
+use Rattle.std.proofs.Common.{◌≡◌, ℕ, zero, suc, ◌+◌, ◌-◌, ◌*◌, ◌/◌, ◌%◌, ◌^◌, ◌<◌, ◌≤◌, min, Bool, true, false, List, [], ◌∷◌, get_or, sym, refl, ap, ◌∙◌, ap₂, ⊎_elim, le_trans, le_of_suc-le-suc, mul-le-mul_right, eq-zero-or-pos, eq-or-lt_of_le, div-le_self, arith, lt-ltb, eq-eqb, ne_eqb}
 use native.Mathlib.Nat.{div-zero}
+use Rattle.std.specs.Int.{w32, to_le_bytes, from_le_bytes}
 use Rattle.arithmetic.specs.Matte.{lane_of, pixel_of, matte_factor, restore_factor, factor_of, scale_colour, cut_colour, mult_lane, mult_argb, restore_factors, restored_by}
 use Rattle.arithmetic.proofs.Orders.{le_or_lt}
 use Rattle.arithmetic.proofs.Products.{byte_product}
@@ -21,6 +22,20 @@ lane_high argb h = omega arith
 pub lane_zero : (k : ℕ) → lane_of 0 k ≡ 0
 unfolding lane_of
 lane_zero k = omega (arith, div-le_self 0 (2 ^ (8 * k)))
+
+-- the library's bytes of a word, the lowest first, are its lanes
+pub bytes_lane : (argb : ℕ) (bytes : List ℕ) → bytes ≡ to_le_bytes w32 argb → (k : ℕ) → k < 4 → get_or bytes k 0 ≡ lane_of argb k
+unfolding lane_of
+bytes_lane argb bytes e zero l = rw e (omega arith)
+bytes_lane argb bytes e (suc zero) l = rw e
+bytes_lane argb bytes e (suc (suc zero)) l = rw e
+bytes_lane argb bytes e (suc (suc (suc zero))) l = rw e
+bytes_lane argb bytes e (suc (suc (suc (suc k)))) l = absurd (omega arith)
+
+-- and the word that the library makes of bytes, the lowest first, is the pixel of these lanes
+pub bytes_pixel : (bytes : List ℕ) → from_le_bytes w32 bytes ≡ pixel_of (λ k. get_or bytes k 0)
+unfolding pixel_of
+bytes_pixel bytes = omega arith
 
 -- the four lanes make the pixel
 pub lanes_make : (argb : ℕ) → argb < 2 ^ 32 → pixel_of (lane_of argb) ≡ argb
@@ -238,17 +253,17 @@ module _ (argb : ℕ) (inverse : Bool) where
   colour_is : (k : ℕ) {c a : ℕ} → k < 3 → c ≡ lane_of argb k → a ≡ lane_of argb 3 → cut_colour c (factor_of inverse a) ≡ mult_lane argb factor k
   colour_is k l ec ea = ap₂ (λ (c a : ℕ). cut_colour c (factor_of inverse a)) ec ea ∙ sym (scaled_colour argb factor k l)
 
-  pub argb_made : {b g r : ℕ} → argb < 2 ^ 32
-      → b ≡ cut_colour (argb % 2 ^ 8) (factor_of inverse (argb / 2 ^ 24)) → g ≡ cut_colour (argb / 2 ^ 8 % 2 ^ 8) (factor_of inverse (argb / 2 ^ 24))
-      → r ≡ cut_colour (argb / 2 ^ 16 % 2 ^ 8) (factor_of inverse (argb / 2 ^ 24))
-      → b + 2 ^ 8 * g + 2 ^ 16 * r + 2 ^ 24 * (argb / 2 ^ 24) ≡ mult_argb argb inverse
-  unfolding lane_of pixel_of
-  argb_made word eb eg er =
-      let alpha : argb / 2 ^ 24 ≡ lane_of argb 3 = sym (lane_high argb word) in
-      let blue = eb ∙ colour_is 0 (omega arith) (omega arith) alpha in
-      let green = eg ∙ colour_is 1 (omega arith) (omega arith) alpha in
-      let red = er ∙ colour_is 2 (omega arith) (omega arith) alpha in
-      omega (arith, blue, green, red, alpha ∙ sym (scaled_alpha argb factor), argb_pixel word)
+  pub argb_made : (bytes : List ℕ) {b g r w : ℕ} → argb < 2 ^ 32 → bytes ≡ to_le_bytes w32 argb
+      → b ≡ cut_colour (get_or bytes 0 0) (factor_of inverse (get_or bytes 3 0)) → g ≡ cut_colour (get_or bytes 1 0) (factor_of inverse (get_or bytes 3 0))
+      → r ≡ cut_colour (get_or bytes 2 0) (factor_of inverse (get_or bytes 3 0)) → w ≡ from_le_bytes w32 (b ∷ g ∷ r ∷ get_or bytes 3 0 ∷ [])
+      → w ≡ mult_argb argb inverse
+  unfolding pixel_of
+  argb_made bytes word e eb eg er ew =
+      let alpha = bytes_lane argb bytes e 3 (omega arith) in
+      let blue = eb ∙ colour_is 0 (omega arith) (bytes_lane argb bytes e 0 (omega arith)) alpha in
+      let green = eg ∙ colour_is 1 (omega arith) (bytes_lane argb bytes e 1 (omega arith)) alpha in
+      let red = er ∙ colour_is 2 (omega arith) (bytes_lane argb bytes e 2 (omega arith)) alpha in
+      omega (arith, ew, blue, green, red, alpha ∙ sym (scaled_alpha argb factor), argb_pixel word)
 
   -- each colour in its own lane
   pub argb_colour : (k : ℕ) → k < 3 → lane_of (mult_argb argb inverse) k ≡ cut_colour (lane_of argb k) factor

@@ -28,15 +28,6 @@ fn mult_alpha(colour: u32, scale: u32) -> u32
     ((colour as u64 * scale as u64 + 8388608) / 16777216) as u32
 }
 
-fn smaller(a: u8, b: u8) -> u8
-    ensures { result ≡ min a b }
-{
-    if a < b {
-        return a;
-    }
-    b
-}
-
 // One colour restored by lent factors, for every alpha. A colour above its alpha counts as the alpha, which by SCOPE's factors is restored to 255: the cut
 // ahead of the product is the cut after it.
 // Rules out: a colour above its alpha that is not cut; the factor of another alpha.
@@ -49,7 +40,7 @@ pub fn restore(colour: u8, alpha: u8, factors: &[u32; 254]) -> u32
     if alpha == 0 {
         return 0;
     }
-    mult_alpha(smaller(colour, alpha) as u32, factors[alpha as usize - 1])
+    mult_alpha(colour.min(alpha) as u32, factors[alpha as usize - 1])
 }
 
 // One colour matted, or restored where `inverse`.
@@ -69,11 +60,13 @@ pub fn mult_argb(argb: u32, inverse: bool) -> u32
     ensures { result ≡ mult_argb argb inverse }
 {
     let factors = restore_factors();
-    let alpha = (argb / 16777216) as u8;
-    let blue = scale((argb % 256) as u8, alpha, inverse, &factors);
-    let green = scale((argb / 256 % 256) as u8, alpha, inverse, &factors);
-    let red = scale((argb / 65536 % 256) as u8, alpha, inverse, &factors);
-    blue as u32 + 256 * green as u32 + 65536 * red as u32 + 16777216 * alpha as u32
+    let [blue, green, red, alpha] = argb.to_le_bytes();
+    u32::from_le_bytes([
+        scale(blue, alpha, inverse, &factors),
+        scale(green, alpha, inverse, &factors),
+        scale(red, alpha, inverse, &factors),
+        alpha,
+    ])
 }
 
 // The factors to restore, of alpha 1 to 254: entry alpha - 1 is 255 × 2^24 / alpha.

@@ -2,14 +2,18 @@
 // line, in hexadecimal. The file `stdout` holds what tests/badge_model.py says.
 #![tactic(auto)]
 
-use pixels::{Checked, Dimensions};
+use pixels::{Dimensions, Refusal};
 use pixels_layout::PixelLayout;
 use std::io;
 
+const LAYOUTS: [PixelLayout; 3] = [PixelLayout::Rgba8, PixelLayout::Argb8, PixelLayout::Bgra8];
+
 fn main(rt: HostRuntime) -> io::Result<()> {
-    over(&rt, PixelLayout::Rgba8)?;
-    over(&rt, PixelLayout::Argb8)?;
-    over(&rt, PixelLayout::Bgra8)?;
+    for layout in LAYOUTS {
+        for from in LAYOUTS {
+            laid(&rt, layout, from)?;
+        }
+    }
     sizes(&rt)?;
     lengths(&rt)?;
     pairs(&rt)
@@ -17,16 +21,10 @@ fn main(rt: HostRuntime) -> io::Result<()> {
 
 // ---- a badge 3 by 2, its alphas 0, 1, 127, 128, 254 and 255
 
-// On a background of this layout, in each layout.
-fn over(rt: &impl Print, layout: PixelLayout) -> io::Result<()> {
-    laid(rt, layout, PixelLayout::Rgba8)?;
-    laid(rt, layout, PixelLayout::Argb8)?;
-    laid(rt, layout, PixelLayout::Bgra8)
-}
-
+// On a background of this layout, in that layout.
 fn laid(rt: &impl Print, layout: PixelLayout, from: PixelLayout) -> io::Result<()> {
     let mut pixels = [0u8; 24];
-    pixels_packing::pack_pixels(
+    let _ = pixels_packing::pack_pixels(
         layout,
         &[
             0xfffe_7f02,
@@ -39,7 +37,7 @@ fn laid(rt: &impl Print, layout: PixelLayout, from: PixelLayout) -> io::Result<(
         &mut pixels,
     );
     let mut badge = [0u8; 24];
-    pixels_packing::pack_pixels(
+    let _ = pixels_packing::pack_pixels(
         from,
         &[
             0x0001_80fe,
@@ -56,16 +54,7 @@ fn laid(rt: &impl Print, layout: PixelLayout, from: PixelLayout) -> io::Result<(
         rt,
         pixels_badge::lay_badge(size, layout, &mut pixels, size, from, &badge),
     )?;
-    six(rt, pixels)
-}
-
-fn six(rt: &impl Print, p: [u8; 24]) -> io::Result<()> {
-    pixel(rt, p[0], p[1], p[2], p[3])?;
-    pixel(rt, p[4], p[5], p[6], p[7])?;
-    pixel(rt, p[8], p[9], p[10], p[11])?;
-    pixel(rt, p[12], p[13], p[14], p[15])?;
-    pixel(rt, p[16], p[17], p[18], p[19])?;
-    pixel(rt, p[20], p[21], p[22], p[23])
+    each(rt, &pixels)
 }
 
 // ---- what is refused: two pixels each, told to be of these sizes
@@ -105,8 +94,7 @@ fn refused(rt: &impl Print, size: Dimensions, badge_size: Dimensions, last: u8) 
             &badge,
         ),
     )?;
-    pixel(rt, p[0], p[1], p[2], p[3])?;
-    pixel(rt, p[4], p[5], p[6], p[7])
+    each(rt, &p)
 }
 
 fn sized(width: u32, height: u32) -> Dimensions {
@@ -115,15 +103,19 @@ fn sized(width: u32, height: u32) -> Dimensions {
 
 // ---- writing
 
-fn number(rt: &impl Print, r: Checked) -> io::Result<()> {
-    match r {
-        Checked::Fit => line(rt, 0),
-        Checked::Refused(why) => line(rt, why.number()),
-    }
+fn number(rt: &impl Print, r: Result<(), Refusal>) -> io::Result<()> {
+    line(rt, r.map_or_else(|why| why.number(), |()| 0))
 }
 
-fn pixel(rt: &impl Print, p: u8, q: u8, s: u8, t: u8) -> io::Result<()> {
-    println!(rt; "{p:02x}{q:02x}{s:02x}{t:02x}")
+// Each pixel's bytes.
+fn each(rt: &impl Print, pixels: &[u8]) -> io::Result<()> {
+    for px in pixels.chunks_exact(4) {
+        for byte in px {
+            print!(rt; "{byte:02x}")?;
+        }
+        println!(rt)?;
+    }
+    Ok(())
 }
 
 fn line(rt: &impl Print, n: u32) -> io::Result<()> {

@@ -5,11 +5,11 @@
 
 ghost use Rattle.std.specs.Prelude.{◌≤◌};
 
-use job::{Job, Offered, Taken};
+use job::{Answer, Job};
 use job_band::{band_rows, offer_band};
 use job_rules::{Kind, Plan, row_bytes};
-use job_start::{Started, start, start_plane};
-use pixels::{Dimensions, Rect};
+use job_start::{start, start_plane};
+use pixels::{Dimensions, Rect, Refusal};
 use pixels_layout::PixelLayout;
 use std::io;
 
@@ -44,23 +44,16 @@ fn all(rt: &impl Print, pixels: &[u8]) -> io::Result<()> {
 
 // ---- the jobs
 
+fn size(width: u32, height: u32) -> Dimensions {
+    Dimensions { width, height }
+}
+
 fn cropped() -> Plan {
     Plan {
-        source: Dimensions {
-            width: 3,
-            height: 9,
-        },
+        source: size(3, 9),
         layout: PixelLayout::Bgra8,
-        crop: Rect {
-            x: 1,
-            y: 1,
-            width: 2,
-            height: 7,
-        },
-        target: Dimensions {
-            width: 2,
-            height: 3,
-        },
+        crop: Rect::new(1, 1, 2, 7),
+        target: size(2, 3),
         kind: Kind::Picture,
         lanes: 4,
     }
@@ -68,21 +61,10 @@ fn cropped() -> Plan {
 
 fn two_lanes() -> Plan {
     Plan {
-        source: Dimensions {
-            width: 3,
-            height: 7,
-        },
+        source: size(3, 7),
         layout: PixelLayout::Rgba8,
-        crop: Rect {
-            x: 0,
-            y: 0,
-            width: 3,
-            height: 7,
-        },
-        target: Dimensions {
-            width: 4,
-            height: 2,
-        },
+        crop: Rect::new(0, 0, 3, 7),
+        target: size(4, 2),
         kind: Kind::Plane,
         lanes: 2,
     }
@@ -91,18 +73,10 @@ fn two_lanes() -> Plan {
 // A picture two wide, and as wide scaled.
 fn whole(layout: PixelLayout, height: u32, target_height: u32) -> Plan {
     Plan {
-        source: Dimensions { width: 2, height },
+        source: size(2, height),
         layout,
-        crop: Rect {
-            x: 0,
-            y: 0,
-            width: 2,
-            height,
-        },
-        target: Dimensions {
-            width: 2,
-            height: target_height,
-        },
+        crop: Rect::new(0, 0, 2, height),
+        target: size(2, target_height),
         kind: Kind::Picture,
         lanes: 4,
     }
@@ -112,61 +86,30 @@ fn whole(layout: PixelLayout, height: u32, target_height: u32) -> Plan {
 
 fn twice(rt: &impl Print, p: Plan, pixels: &[u8]) -> io::Result<()> {
     let mut work = [7u32; 17];
-    let fresh = begun(p, &mut work);
-    by_rows(rt, fresh, larger(p), pixels, &mut work)?;
-    let again = begun(p, &mut work);
+    let mut job = begun(p, &mut work);
+    for _ in 0..p.source.height.max(p.target.height) {
+        job = row_turn(rt, job, pixels, &mut work)?;
+    }
+    job = begun(p, &mut work);
     // a turn for each row to come, one for what is above the crop, and one more
-    by_bands(
-        rt,
-        again,
-        p.target.height.wrapping_add(2),
-        pixels,
-        &mut work,
-    )
-}
-
-// The larger of both heights.
-fn larger(p: Plan) -> u32 {
-    if p.source.height < p.target.height {
-        return p.target.height;
+    for _ in 0..p.target.height.wrapping_add(2) {
+        job = band_turn(rt, job, pixels, &mut work)?;
     }
-    p.source.height
-}
-
-fn begun(p: Plan, work: &mut [u32]) -> Job {
-    let kind = p.kind;
-    let layout = p.layout;
-    match kind {
-        Kind::Picture => started_job(start(p.source, layout, p.crop, p.target, work), p),
-        Kind::Plane => started_job(start_plane(p.source, p.lanes, p.crop, p.target, work), p),
-    }
+    Ok(())
 }
 
 // None is refused here; the record that stands for one would turn every call away.
-fn started_job(started: Started, p: Plan) -> Job {
-    match started {
-        Started::Fresh { job } => job,
-        Started::Refused { why: _ } => Job {
-            plan: p,
-            accepted: 0,
-            taken: 1,
-            flag: false,
-        },
-    }
-}
-
-fn by_rows(
-    rt: &impl Print,
-    fresh: Job,
-    times: u32,
-    pixels: &[u8],
-    work: &mut [u32],
-) -> io::Result<()> {
-    let mut job = fresh;
-    for _ in 0..times {
-        job = row_turn(rt, job, pixels, work)?;
-    }
-    Ok(())
+fn begun(p: Plan, work: &mut [u32]) -> Job {
+    let started = match p.kind {
+        Kind::Picture => start(p.source, p.layout, p.crop, p.target, work),
+        Kind::Plane => start_plane(p.source, p.lanes, p.crop, p.target, work),
+    };
+    started.unwrap_or(Job {
+        plan: p,
+        accepted: 0,
+        taken: 1,
+        flag: false,
+    })
 }
 
 fn row_turn(rt: &impl Print, job: Job, pixels: &[u8], work: &mut [u32]) -> io::Result<Job> {
@@ -174,20 +117,6 @@ fn row_turn(rt: &impl Print, job: Job, pixels: &[u8], work: &mut [u32]) -> io::R
     let next = offer_row(rt, job, pixels, work)?;
     told(rt, next, pixels)?;
     take_row(rt, next, work)
-}
-
-fn by_bands(
-    rt: &impl Print,
-    fresh: Job,
-    times: u32,
-    pixels: &[u8],
-    work: &mut [u32],
-) -> io::Result<()> {
-    let mut job = fresh;
-    for _ in 0..times {
-        job = band_turn(rt, job, pixels, work)?;
-    }
-    Ok(())
 }
 
 // A call that is turned away leaves all as it was.
@@ -203,47 +132,37 @@ fn band_turn(rt: &impl Print, job: Job, pixels: &[u8], work: &mut [u32]) -> io::
 fn told(rt: &impl Print, job: Job, pixels: &[u8]) -> io::Result<()> {
     let rows = band_rows(job);
     print!(rt; "{} accepted, {} in the next band:", job.accepted, rows)?;
-    tried(rt, job, less(rows), pixels)?;
+    tried(rt, job, rows.saturating_sub(1), pixels)?;
     tried(rt, job, rows, pixels)?;
     tried(rt, job, rows.wrapping_add(1), pixels)?;
     tried_short(rt, job, rows, pixels)?;
     println!(rt)
 }
 
-fn less(rows: u32) -> u32 {
-    if rows == 0 {
-        return 0;
-    }
-    rows - 1
-}
-
 fn tried(rt: &impl Print, job: Job, rows: u32, pixels: &[u8]) -> io::Result<()> {
     let mut work = [7u32; 16];
-    number(rt, band_of(job, rows, pixels, &mut work))
+    number(rt, band_of(job, rows, pixels, &mut work).said)
 }
 
 fn tried_short(rt: &impl Print, job: Job, rows: u32, pixels: &[u8]) -> io::Result<()> {
     let mut work = [7u32; 15];
-    number(rt, band_of(job, rows, pixels, &mut work))
+    number(rt, band_of(job, rows, pixels, &mut work).said)
 }
 
 // The next so many rows as a band.
-fn band_of(job: Job, rows: u32, pixels: &[u8], work: &mut [u32]) -> Offered {
+fn band_of(job: Job, rows: u32, pixels: &[u8], work: &mut [u32]) -> Answer<u32, Job> {
     let row = row_bytes(job.plan, job.plan.source.width);
     let at = place(row, job.accepted, pixels.len());
     let end = place(row, job.accepted.wrapping_add(rows), pixels.len());
-    if end < at {
-        return offer_band(job, &pixels[at..at], work);
-    }
-    offer_band(job, &pixels[at..end], work)
+    offer_band(job, &pixels[at..end.max(at)], work)
 }
 
 fn band_due(rt: &impl Print, job: Job, pixels: &[u8], work: &mut [u32]) -> io::Result<Job> {
     let answer = band_of(job, band_rows(job), pixels, work);
     print!(rt; "band")?;
-    accepted_line(rt, answer)?;
+    accepted_line(rt, answer.said)?;
     words_line(rt, work)?;
-    Ok(fed(answer))
+    Ok(answer.next)
 }
 
 fn offer_row(rt: &impl Print, job: Job, pixels: &[u8], work: &mut [u32]) -> io::Result<Job> {
@@ -255,80 +174,41 @@ fn offer_row(rt: &impl Print, job: Job, pixels: &[u8], work: &mut [u32]) -> io::
     }
     let answer = job.offer(&pixels[at..end], work);
     print!(rt; "offer")?;
-    accepted_line(rt, answer)?;
-    Ok(fed(answer))
+    accepted_line(rt, answer.said)?;
+    Ok(answer.next)
 }
 
 fn take_row(rt: &impl Print, job: Job, work: &mut [u32]) -> io::Result<Job> {
     let mut row = [1u8; 8];
     let answer = job.take(&mut row, work);
     print!(rt; "take")?;
-    taken_number(rt, answer)?;
+    number(rt, answer.said)?;
     print!(rt; ": ")?;
     hex_line(rt, &row)?;
-    Ok(took(answer))
+    Ok(answer.next)
 }
 
 // Where row k starts, of `row` bytes each, or the end of the bytes where that is before it.
 fn place(row: usize, k: u32, len: usize) -> usize
     ensures { result ≤ len }
 {
-    if row == 0 {
-        return 0;
-    }
-    if len / row < k as usize {
-        return len;
-    }
-    row * k as usize
-}
-
-fn fed(answer: Offered) -> Job {
-    match answer {
-        Offered::Accepted { rows: _, job } => job,
-        Offered::Refused { why: _, job } => job,
-    }
-}
-
-fn took(answer: Taken) -> Job {
-    match answer {
-        Taken::Wrote { job } => job,
-        Taken::Refused { why: _, job } => job,
-    }
+    row.saturating_mul(k as usize).min(len)
 }
 
 // ---- writing
 
-fn number(rt: &impl Print, answer: Offered) -> io::Result<()> {
-    match answer {
-        Offered::Accepted { rows: _, job: _ } => spaced(rt, 0),
-        Offered::Refused { why, job: _ } => spaced(rt, why.number()),
-    }
+fn number<T: Copy>(rt: &impl Print, said: Result<T, Refusal>) -> io::Result<()> {
+    print!(rt; " {}", said.map_or_else(|why| why.number(), |_| 0))
 }
 
 // The number and how many rows were accepted.
-fn accepted_line(rt: &impl Print, answer: Offered) -> io::Result<()> {
-    number(rt, answer)?;
-    println!(rt; ": {}", rows_of(answer))
+fn accepted_line(rt: &impl Print, said: Result<u32, Refusal>) -> io::Result<()> {
+    number(rt, said)?;
+    println!(rt; ": {}", said.unwrap_or(0))
 }
 
-fn rows_of(answer: Offered) -> u32 {
-    match answer {
-        Offered::Accepted { rows, job: _ } => rows,
-        Offered::Refused { why: _, job: _ } => 0,
-    }
-}
-
-fn taken_number(rt: &impl Print, answer: Taken) -> io::Result<()> {
-    match answer {
-        Taken::Wrote { job: _ } => spaced(rt, 0),
-        Taken::Refused { why, job: _ } => spaced(rt, why.number()),
-    }
-}
-
-fn spaced(rt: &impl Print, n: u32) -> io::Result<()> {
-    print!(rt; " {n}")
-}
-
+// Kept, as `number` and `place`, in each program of trials, so that it is read alone: a crate for these few lines would owe contracts.
+// Kept: bytes and words, a format each; a function of both would be told the width.
 fn hex_line(rt: &impl Print, bytes: &[u8]) -> io::Result<()> {
     for byte in bytes {
         print!(rt; "{byte:02x}")?;

@@ -1,4 +1,5 @@
 -- What each way out of the calls of a band gives, as their contracts state it. Assumes nothing.
+use Rattle.std.specs.Prelude.{Option, Some, None, Result, Ok, Err}
 use Prim.Native.Nat.{ℕ, ◌≤◌}
 use mathlib.Core.Path.{◌≡◌, sym, ap, ◌∙◌}
 use mathlib.Core.Bool.{Bool, true, false, not}
@@ -6,17 +7,12 @@ use mathlib.Core.List.{List, [], ◌∷◌}
 use lib.ListN.{length}
 use Rattle.pixels.specs.declared.Refusal.{Refusal}
 use Rattle.pixels.specs.declared.Refusal.TheVariants.{InvalidRecord}
-use Rattle.pixels.specs.Refusals.{Cause, number, buffer_if}
+use Rattle.pixels.specs.Refusals.{Cause, number, buffer_if, answer_number, value_or}
 use Rattle.pixels.proofs.Causes.{first_at, first_none}
 use Rattle.job_rules.specs.Rules.{bad_record}
 use Rattle.job.specs.declared.Job.{Job}
-use Rattle.job.specs.declared.Offered.{Offered}
-use Rattle.job.specs.declared.Offered.TheVariants as offered
-use Rattle.job.specs.Answers.{offered_number, offered_rows, offered_job}
 use Rattle.job.specs.Record.{lawful}
 use Rattle.job_band.specs.Bands.{next_band, band_number, band_accepted, band_job, band_work}
-use Rattle.capi_record.specs.declared.Told.{Told}
-use Rattle.capi_record.specs.declared.Told.TheVariants as told
 use Rattle.capi_record.specs.Record.{words_job, told_by, stored_job, record_first}
 use Rattle.capi_record.proofs.Records.{job_legal}
 use Rattle.capi_record.proofs.Offers as offers
@@ -35,12 +31,12 @@ module _ (words count : List ℕ) (lent : 1 ≤ length count) where
       let z = q ∙ one_lent (length count) (record_first words (record_number (words_job words))) lent in
       (z, kept_by InvalidRecord _ _ count (sym z ∙ h))
 
-  pub count_no_record : (r : ℕ) {t : Told} → t ≡ told_by words → t ≡ told.Nothing → r ≡ number InvalidRecord
+  pub count_no_record : (r : ℕ) {t : Option Job} → t ≡ told_by words → t ≡ None → r ≡ number InvalidRecord
       → (r ≡ number_of_count words (length count)) × (count ≡ count_after_count words count)
   count_no_record r e f h = six r h (no_record words (record_number (words_job words)) r e f h)
 
   -- of the job j that the words tell; b is whether it meets the rules
-  module _ (j : Job) {t : Told} (e : t ≡ told_by words) (f : t ≡ told.Job j) (b : Bool) (is : b ≡ lawful j) where
+  module _ (j : Job) {t : Option Job} (e : t ≡ told_by words) (f : t ≡ Some j) (b : Bool) (is : b ≡ lawful j) where
     same : j ≡ words_job words
     same = sym (job_legal words j (sym e ∙ f)).1
 
@@ -78,31 +74,31 @@ module _ (words rows work count : List ℕ) (lent : 1 ≤ length count) where
   abbrev work_of : Job → List ℕ
   work_of j = band_work j rows work
 
-  pub band_no_record : (r : ℕ) {t : Told} → t ≡ told_by words → t ≡ told.Nothing → r ≡ number InvalidRecord
+  pub band_no_record : (r : ℕ) {t : Option Job} → t ≡ told_by words → t ≡ None → r ≡ number InvalidRecord
       → (r ≡ number_of_band words (length rows) (length work) (length count))
       × ((words ≡ record_after_band words (length rows) (length work) (length count))
       × ((work ≡ work_after_band words rows work (length count)) × (count ≡ count_after_band words (length rows) (length work) count)))
   unfolding number_of_band record_after_band work_after_band count_after_band
   band_no_record r e f h = offers.none_told words work count lent number_of rows_of next_of work_of r e f h
 
-  module _ (j : Job) {t : Told} (e : t ≡ told_by words) (f : t ≡ told.Job j) (answer : Offered) (m : offered_number answer ≡ number_of j)
+  module _ (j : Job) {t : Option Job} (e : t ≡ told_by words) (f : t ≡ Some j) (said : Result ℕ Refusal) (m : answer_number said ≡ number_of j)
       (next : List ℕ) (w : next ≡ band_work j rows work) where
     once : next ≡ buffer_if (number_of j) (work_of j) work
     unfolding band_work
     once = w ∙ written_once (number_of j) _ work
 
-    pub band_refused : (why : Refusal) (job : Job) (r : ℕ) → answer ≡ offered.Refused why job → r ≡ number why
+    pub band_refused : (why : Refusal) (r : ℕ) → said ≡ Err why → r ≡ number why
         → (r ≡ number_of_band words (length rows) (length work) (length count))
         × ((words ≡ record_after_band words (length rows) (length work) (length count))
         × ((next ≡ work_after_band words rows work (length count)) × (count ≡ count_after_band words (length rows) (length work) count)))
     unfolding number_of_band record_after_band work_after_band count_after_band
-    band_refused why job r a h = offers.offer_refused words work count lent number_of rows_of next_of work_of j e f answer m next once why job r a h
+    band_refused why r a h = offers.offer_refused words work count lent number_of rows_of next_of work_of j e f said m next once why r a h
 
-    pub band_accepted_lem : (n : ℕ) (job : Job) (words' count' : List ℕ) → answer ≡ offered.Accepted n job → offered_rows answer ≡ rows_of j
-        → offered_job answer ≡ next_of j → words' ≡ stored_job job words → count' ≡ stored_word n count
+    pub band_accepted_lem : (n : ℕ) (job : Job) (words' count' : List ℕ) → said ≡ Ok n → value_or 0 said ≡ rows_of j
+        → job ≡ next_of j → words' ≡ stored_job job words → count' ≡ stored_word n count
         → (0 ≡ number_of_band words (length rows) (length work) (length count))
         × ((words' ≡ record_after_band words (length rows) (length work) (length count))
         × ((next ≡ work_after_band words rows work (length count)) × (count' ≡ count_after_band words (length rows) (length work) count)))
     unfolding number_of_band record_after_band work_after_band count_after_band
     band_accepted_lem n job words' count' a c o s u =
-        offers.offer_accepted words work count lent number_of rows_of next_of work_of j e f answer m next once n job words' count' a c o s u
+        offers.offer_accepted words work count lent number_of rows_of next_of work_of j e f said m next once n job words' count' a c o s u

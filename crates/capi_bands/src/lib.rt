@@ -4,9 +4,8 @@
 ghost use Rattle.std.specs.Prelude.{◌≡◌, length};
 ghost use Rattle.capi_bands.specs.Bands.{number_of_count, count_after_count, number_of_band, record_after_band, work_after_band, count_after_band};
 
-use capi_record::{Told, read_job, store_job};
+use capi_record::{read_job, store_job};
 use capi_words::{BOUNDARY, store};
-use job::Offered;
 use job_band::{band_rows, offer_band};
 use pixels::Refusal;
 
@@ -20,8 +19,7 @@ pub extern "C" fn jonquilsaw_band_count(record: &[u32], count: &mut [u32]) -> u3
     if count.len() < 1 {
         return BOUNDARY;
     }
-    let told = read_job(record);
-    let Told::Job { job } = told else {
+    let Some(job) = read_job(record) else {
         return Refusal::InvalidRecord.number();
     };
     if !job.check() {
@@ -48,15 +46,14 @@ pub extern "C" fn jonquilsaw_band_offer(
     if count.len() < 1 {
         return BOUNDARY;
     }
-    let told = read_job(record);
-    let Told::Job { job } = told else {
+    let Some(job) = read_job(record) else {
         return Refusal::InvalidRecord.number();
     };
     let answer = offer_band(job, rows, work);
-    match answer {
-        Offered::Refused { why, job: _ } => why.number(),
-        Offered::Accepted { rows: n, job: next } => {
-            store_job(next, record);
+    match answer.said {
+        Err(why) => why.number(),
+        Ok(n) => {
+            store_job(answer.next, record);
             store(&[n], count);
             0
         }

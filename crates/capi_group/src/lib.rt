@@ -11,7 +11,7 @@ use capi_words::{BOUNDARY, store};
 use group::offer_group;
 use group_start::start_group;
 use group_take::take_group;
-use pixels::{Checked, Refusal};
+use pixels::Refusal;
 
 // A fresh group of the plans given: its record in lent words, and the work rows of all its jobs cleared.
 // Rules out: one job started however many are asked for; the work values measured in place of the record's words.
@@ -26,17 +26,14 @@ pub extern "C" fn jonquilsaw_start_group(
     ensures work { work.new ≡ work_after_start_group plans.now count work.old (length «record».old) }
     ensures record { «record».new ≡ record_after_start_group plans.now count (length work.old) «record».old }
 {
-    let told = read_plans(plans, count, record.len());
-    if !told.legal {
+    let Some(given) = read_plans(plans, count, record.len()) else {
         return BOUNDARY;
-    }
-    let given = told.plans;
+    };
     let started = start_group(given, count, work);
-    let answer = started.answer;
-    match answer {
-        Checked::Refused(why) => why.number(),
-        Checked::Fit => {
-            store_group(started.group, record);
+    match started.said {
+        Err(why) => why.number(),
+        Ok(()) => {
+            store_group(started.next, record);
             0
         }
     }
@@ -59,17 +56,15 @@ pub extern "C" fn jonquilsaw_offer_group(
     if accepted.len() < 1 {
         return BOUNDARY;
     }
-    let told = read_group(record);
-    if !told.legal {
+    let Some(group) = read_group(record) else {
         return Refusal::InvalidRecord.number();
-    }
-    let offered = offer_group(told.group, rows, work);
-    let answer = offered.answer;
-    match answer {
-        Checked::Refused(why) => why.number(),
-        Checked::Fit => {
-            store_group(offered.group, record);
-            store(&[offered.rows], accepted);
+    };
+    let offered = offer_group(group, rows, work);
+    match offered.said {
+        Err(why) => why.number(),
+        Ok(n) => {
+            store_group(offered.next, record);
+            store(&[n], accepted);
             0
         }
     }
@@ -89,16 +84,14 @@ pub extern "C" fn jonquilsaw_take_group(
     ensures out { out.new ≡ out_after_take_group «record».old job out.old work.old }
     ensures work { work.new ≡ work_after_take_group «record».old job (length out.old) work.old }
 {
-    let told = read_group(record);
-    if !told.legal {
+    let Some(group) = read_group(record) else {
         return Refusal::InvalidRecord.number();
-    }
-    let taken = take_group(told.group, job, out, work);
-    let answer = taken.answer;
-    match answer {
-        Checked::Refused(why) => why.number(),
-        Checked::Fit => {
-            store_group(taken.group, record);
+    };
+    let taken = take_group(group, job, out, work);
+    match taken.said {
+        Err(why) => why.number(),
+        Ok(()) => {
+            store_group(taken.next, record);
             0
         }
     }

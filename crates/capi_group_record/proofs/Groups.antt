@@ -1,5 +1,6 @@
 -- A group written into words and read back is that group, with the record of zeros beyond its count, and the words of a legal group are the ones that it is written
 -- as: neither way loses anything. What the loops over plans and jobs keep. Assumes nothing.
+use Rattle.std.specs.Prelude.{Option, Some, None}
 use Prim.Native.Nat.{ℕ, zero, suc, ◌+◌, ◌*◌, ◌-◌, ◌≤◌, ◌<◌}
 use mathlib.Core.Path.{◌≡◌, refl, sym, ap, ◌∙◌}
 use mathlib.Core.Bool.{Bool, true, false, cond, not, ◌&&◌, true≢false}
@@ -9,7 +10,7 @@ use native.Mathlib.Omega.{arith}
 use native.Mathlib.Numerals.{add-one}
 use native.Mathlib.Nat.{eq-or-lt_of_le, le_of_suc-le-suc, mul-le-mul_left}
 use lib.Dec.{leb}
-use lib.ListN.{length, get_or, take, drop, set, length-set, length-append, drop_of_length-le, take-append-drop, get_or-eq_default}
+use lib.ListN.{length, get_or, take, drop, set, replicate, length-set, length-append, drop_of_length-le, take-append-drop, get_or-eq_default}
 use lib.Seq.{get_or-set_same, get_or-set_other, take_all, drop_at, drop-cons, drop-set-lt, take-add, drop-drop}
 use borrow.Author.Tests.{leb-true, ltb-false, not-true, le-leb, lt-leb, lt-ltb, le-ltb}
 use borrow.Rule.Slice.PartMut.{put_mid, same_len_mid}
@@ -24,13 +25,9 @@ use Rattle.group_rules.specs.Group.{group_limit, spare, job_at, every, too_many,
 use Rattle.group_rules.proofs.Jobs.{every_none, every_more, every_one, every_of, every_not}
 use Rattle.capi_words.specs.Words.{is_layout}
 use Rattle.capi_words.proofs.Words.{stored_enough, stored_short}
-use Rattle.capi_record.specs.declared.Told.{Told}
-use Rattle.capi_record.specs.declared.Told.TheVariants as told
 use Rattle.capi_record.specs.Record.{is_kind, record_length, record_words, words_job, words_legal, told_by, stored_job}
 use Rattle.capi_record.proofs.Records.{job_told, none_told, job_legal, none_legal, words_legal_lem, read_written, written_read}
-use Rattle.capi_group_record.specs.declared.ToldPlans.{ToldPlans}
-use Rattle.capi_group_record.specs.declared.ToldGroup.{ToldGroup}
-use Rattle.capi_group_record.specs.GroupRecord.{plan_length, plan_of_words, plan_legal, plan_words, told_plan, group_length, plans_legal, plans_of, no_plans, told_plans, job_words, count_word, group_legal, jobs_by, group_by, words_group, no_group, nothing_told, told_group, jobs_words, group_words, stored_group, counted}
+use Rattle.capi_group_record.specs.GroupRecord.{plan_length, plan_of_words, plan_legal, plan_words, told_plan, group_length, plans_legal, plans_of, told_plans, job_words, count_word, group_legal, jobs_by, group_by, words_group, told_group, jobs_words, group_words, stored_group, counted}
 
 -- ---- words cut as the code cuts them
 pub cut : (a k : ℕ) (w : List ℕ) → take (a + k - a) (drop a w) ≡ take k (drop a w)
@@ -46,152 +43,145 @@ pub plan_told : (words : List ℕ)
     ≡ told_plan words
 unfolding words_legal words_job plan_legal plan_of_words
 plan_told words =
-    ap (λ (b : Bool). cond b (told.Job (fresh (plan_of_words words))) told.Nothing) (unflagged (is_layout (get_or words 2 0)) (is_kind (get_or words 9 0)))
+    ap (λ (b : Bool). cond b (Some (fresh (plan_of_words words))) None) (unflagged (is_layout (get_or words 2 0)) (is_kind (get_or words 9 0)))
   where
     unflagged : (x y : Bool) → (true && x && y && true) ≡ (x && y)
     unflagged true true = refl
     unflagged true false = refl
     unflagged false y = refl
 
-pub record PlansRead (words : List ℕ) (n i : ℕ) (got : ToldPlans) : Type 0 where
-  pub upto : i ≤ n
+pub record PlansRead (words : List ℕ) (i : ℕ) (got : List Plan) : Type 0 where
   pub legal : every (λ k. plan_legal (plan_words words k)) i ≡ true
-  pub plans : got.plans ≡ plans_of words i
+  pub plans : got ≡ plans_of words i
 
-pub plans_first : (words : List ℕ) (n : ℕ) (got : ToldPlans) → got ≡ no_plans → PlansRead words n 0 got
+pub plans_first : (words : List ℕ) (none : Job) → none ≡ spare → PlansRead words 0 (replicate group_limit none.plan)
 unfolding plans_of
-plans_first words n got e = record { upto = omega arith; legal = every_none _; plans = ap (λ (t : ToldPlans). t.plans) e }
+plans_first words none e = record { legal = every_none _; plans = ap (λ (j : Job). replicate group_limit j.plan) e }
 
 plans_next : (words : List ℕ) (i : ℕ) (ps : List Plan) (p : Plan) → ps ≡ plans_of words i → plan_of_words (plan_words words i) ≡ p → set ps i p ≡ plans_of words (suc i)
 unfolding plans_of
 plans_next words i ps p e h = rw (e, ← h)
 
 -- what plan i's words tell, as the code cuts them
-module _ (words : List ℕ) (i : ℕ) {t : Told} (e : t ≡ told_plan (take (plan_length * i + plan_length - plan_length * i) (drop (plan_length * i) words))) where
+module _ (words : List ℕ) (i : ℕ) {t : Option Job} (e : t ≡ told_plan (take (plan_length * i + plan_length - plan_length * i) (drop (plan_length * i) words))) where
   told_here : t ≡ told_plan (plan_words words i)
   told_here = e ∙ ap (λ (w : List ℕ). told_plan w) (cut (plan_length * i) plan_length words)
 
-  pub plan_here : (j : Job) → t ≡ told.Job j → (plan_legal (plan_words words i) ≡ true) × (plan_of_words (plan_words words i) ≡ j.plan)
+  pub plan_here : (j : Job) → t ≡ Some j → (plan_legal (plan_words words i) ≡ true) × (plan_of_words (plan_words words i) ≡ j.plan)
   plan_here j h =
       let p = job_told (plan_legal (plan_words words i)) (fresh (plan_of_words (plan_words words i))) j (sym told_here ∙ h) in
       (p.0, ap (λ (k : Job). k.plan) p.1)
 
-  pub no_plan_here : t ≡ told.Nothing → plan_legal (plan_words words i) ≡ false
+  pub no_plan_here : t ≡ None → plan_legal (plan_words words i) ≡ false
   no_plan_here h = none_told (plan_legal (plan_words words i)) (fresh (plan_of_words (plan_words words i))) (sym told_here ∙ h)
 
-pub plans_more : (words : List ℕ) (n i : ℕ) (got : ToldPlans) (p : Plan) → PlansRead words n i got → i < n
+pub plans_more : (words : List ℕ) (i : ℕ) (got : List Plan) (p : Plan) → PlansRead words i got
     → (plan_legal (plan_words words i) ≡ true) × (plan_of_words (plan_words words i) ≡ p)
-    → PlansRead words n (i + 1) (record { legal = got.legal; plans = set got.plans i p })
-plans_more words n i got p v l h = record {
-  upto = omega arith;
+    → PlansRead words (i + 1) (set got i p)
+plans_more words i got p v h = record {
   legal = rw (add-one i) (every_more _ i v.legal h.0);
-  plans = rw (add-one i) (plans_next words i got.plans p v.plans h.1);
+  plans = rw (add-one i) (plans_next words i got p v.plans h.1);
 }
 
 -- each way out of the loop, and before it
-module _ (words : List ℕ) (count lent n : ℕ) (s : n ≡ looked count) (r : ToldPlans) where
-  none_read : r ≡ no_plans → plans_legal words n lent ≡ false → r ≡ told_plans words count lent
-  none_read e f = e ∙ simp (rw s at f)
+module _ (words : List ℕ) (count lent n : ℕ) (s : n ≡ looked count) where
+  none_read : plans_legal words n lent ≡ false → None ≡ told_plans words count lent
+  none_read f = simp (rw s at f)
 
-  pub few_words : r ≡ no_plans → length words < plan_length * n → r ≡ told_plans words count lent
+  pub few_words : length words < plan_length * n → None ≡ told_plans words count lent
   unfolding plans_legal
-  few_words e h = none_read e (simp (lt-leb (plan_length * n) (length words) h))
+  few_words h = none_read (simp (lt-leb (plan_length * n) (length words) h))
 
-  pub few_lent : r ≡ no_plans → plan_length * n ≤ length words → lent < group_length n → r ≡ told_plans words count lent
+  pub few_lent : plan_length * n ≤ length words → lent < group_length n → None ≡ told_plans words count lent
   unfolding plans_legal
-  few_lent e h k = none_read e (simp (le-leb (plan_length * n) (length words) h, lt-leb (group_length n) lent k))
+  few_lent h k = none_read (simp (le-leb (plan_length * n) (length words) h, lt-leb (group_length n) lent k))
 
-  pub plan_not : r ≡ no_plans → plan_length * n ≤ length words → group_length n ≤ lent → (i : ℕ) → i < n → plan_legal (plan_words words i) ≡ false → r ≡ told_plans words count lent
+  pub plan_not : plan_length * n ≤ length words → group_length n ≤ lent → (i : ℕ) → i < n → plan_legal (plan_words words i) ≡ false → None ≡ told_plans words count lent
   unfolding plans_legal
-  plan_not e h k i l f =
+  plan_not h k i l f =
       let x = every_not (λ m. plan_legal (plan_words words m)) n i l f in
-      none_read e (simp (le-leb (plan_length * n) (length words) h, le-leb (group_length n) lent k, x))
+      none_read (simp (le-leb (plan_length * n) (length words) h, le-leb (group_length n) lent k, x))
 
   legal_plans : plan_length * n ≤ length words → group_length n ≤ lent → every (λ m. plan_legal (plan_words words m)) n ≡ true → plans_legal words n lent ≡ true
   unfolding plans_legal
   legal_plans h k x = simp (le-leb (plan_length * n) (length words) h, le-leb (group_length n) lent k, x)
 
-  pub plans_read : (i : ℕ) (got : ToldPlans) → plan_length * n ≤ length words → group_length n ≤ lent → PlansRead words n i got → n ≤ i
-      → r ≡ record { legal = true; plans = got.plans } → r ≡ told_plans words count lent
-  plans_read i got h k v l e =
-      let q : i ≡ n = omega (arith, v.upto) in
+  pub plans_read : (i : ℕ) (got : List Plan) → plan_length * n ≤ length words → group_length n ≤ lent → PlansRead words i got → i ≡ n → Some got ≡ told_plans words count lent
+  plans_read i got h k v q =
       let x = legal_plans h k (rw q at v.legal) in
-      e ∙ rw v.plans (rw q (rw s (simp (rw s at x))))
+      rw v.plans (rw q (rw s (simp (rw s at x))))
 
 -- ---- the group's record
 pub record GroupRead (words : List ℕ) (n i : ℕ) (g : Group) : Type 0 where
-  pub upto : i ≤ n
   pub count : g.count ≡ n
   pub legal : every (λ k. words_legal (job_words words k)) i ≡ true
   pub jobs : g.jobs ≡ jobs_by (λ k. words_job (job_words words k)) i
 
-pub group_first_lem : (words : List ℕ) (n : ℕ) (g : Group) → g ≡ no_group → GroupRead words n 0 (record { count = n; jobs = g.jobs })
+pub group_first_lem : (words : List ℕ) (n : ℕ) (none : Job) → none ≡ spare → GroupRead words n 0 (record { count = n; jobs = replicate group_limit none })
 unfolding jobs_by
-group_first_lem words n g e = record { upto = omega arith; count = refl; legal = every_none _; jobs = ap (λ (t : Group). t.jobs) e }
+group_first_lem words n none e = record { count = refl; legal = every_none _; jobs = ap (replicate group_limit) e }
 
 jobs_by_next : (f : ℕ → Job) (i : ℕ) (js : List Job) (j : Job) → js ≡ jobs_by f i → f i ≡ j → set js i j ≡ jobs_by f (suc i)
 unfolding jobs_by
 jobs_by_next f i js j e h = rw (e, ← h)
 
 -- what job i's words tell, as the code cuts them
-module _ (words : List ℕ) (i : ℕ) {t : Told} (e : t ≡ told_by (take (group_length i + record_length - group_length i) (drop (group_length i) words))) where
+module _ (words : List ℕ) (i : ℕ) {t : Option Job} (e : t ≡ told_by (take (group_length i + record_length - group_length i) (drop (group_length i) words))) where
   job_read_here : t ≡ told_by (job_words words i)
   job_read_here = e ∙ ap (λ (w : List ℕ). told_by w) (cut (group_length i) record_length words)
 
-  pub job_here : (j : Job) → t ≡ told.Job j → (words_legal (job_words words i) ≡ true) × (words_job (job_words words i) ≡ j)
+  pub job_here : (j : Job) → t ≡ Some j → (words_legal (job_words words i) ≡ true) × (words_job (job_words words i) ≡ j)
   job_here j h = job_legal (job_words words i) j (sym job_read_here ∙ h)
 
-  pub no_job_here : t ≡ told.Nothing → words_legal (job_words words i) ≡ false
+  pub no_job_here : t ≡ None → words_legal (job_words words i) ≡ false
   no_job_here h = none_legal (job_words words i) (sym job_read_here ∙ h)
 
-pub group_more : (words : List ℕ) (n i : ℕ) (g : Group) (j : Job) → GroupRead words n i g → i < n
+pub group_more : (words : List ℕ) (n i : ℕ) (g : Group) (j : Job) → GroupRead words n i g
     → (words_legal (job_words words i) ≡ true) × (words_job (job_words words i) ≡ j)
     → GroupRead words n (i + 1) (record { count = g.count; jobs = set g.jobs i j })
-group_more words n i g j v l h = record {
-  upto = omega arith;
+group_more words n i g j v h = record {
   count = v.count;
   legal = rw (add-one i) (every_more _ i v.legal h.0);
   jobs = rw (add-one i) (jobs_by_next (λ k. words_job (job_words words k)) i g.jobs j v.jobs h.1);
 }
 
 -- each way out
-module _ (words : List ℕ) (r : ToldGroup) where
-  none_told_by : r ≡ nothing_told → group_legal words ≡ false → r ≡ told_group words
-  none_told_by e f = e ∙ simp f
+module _ (words : List ℕ) where
+  none_told_by : group_legal words ≡ false → None ≡ told_group words
+  none_told_by f = simp f
 
-  pub no_words : r ≡ nothing_told → length words < 1 → r ≡ told_group words
+  pub no_words : length words < 1 → None ≡ told_group words
   unfolding group_legal
-  no_words e h =
+  no_words h =
       let z : count_word words ≡ 0 = get_or-eq_default words 0 (omega arith) in
-      none_told_by e (rw z (simp (lt-leb (group_length 0) (length words) (omega arith))))
+      none_told_by (rw z (simp (lt-leb (group_length 0) (length words) (omega arith))))
 
-  pub many_jobs : r ≡ nothing_told → group_limit < count_word words → r ≡ told_group words
+  pub many_jobs : group_limit < count_word words → None ≡ told_group words
   unfolding group_legal
-  many_jobs e h = none_told_by e (simp (lt-ltb group_limit (count_word words) h))
+  many_jobs h = none_told_by (simp (lt-ltb group_limit (count_word words) h))
 
   module _ (few : count_word words ≤ group_limit) where
-    pub short_group_lem : r ≡ nothing_told → length words < group_length (count_word words) → r ≡ told_group words
+    pub short_group_lem : length words < group_length (count_word words) → None ≡ told_group words
     unfolding group_legal
-    short_group_lem e h = none_told_by e (simp (le-ltb group_limit (count_word words) few, lt-leb (group_length (count_word words)) (length words) h))
+    short_group_lem h = none_told_by (simp (le-ltb group_limit (count_word words) few, lt-leb (group_length (count_word words)) (length words) h))
 
     module _ (enough : group_length (count_word words) ≤ length words) where
-      pub job_not : r ≡ nothing_told → (i : ℕ) → i < count_word words → words_legal (job_words words i) ≡ false → r ≡ told_group words
+      pub job_not : (i : ℕ) → i < count_word words → words_legal (job_words words i) ≡ false → None ≡ told_group words
       unfolding group_legal
-      job_not e i l f =
+      job_not i l f =
           let n = count_word words in
           let x = every_not (λ m. words_legal (job_words words m)) n i l f in
-          none_told_by e (simp (le-ltb group_limit n few, le-leb (group_length n) (length words) enough, x))
+          none_told_by (simp (le-ltb group_limit n few, le-leb (group_length n) (length words) enough, x))
 
       legal_group : every (λ m. words_legal (job_words words m)) (count_word words) ≡ true → group_legal words ≡ true
       unfolding group_legal
       legal_group x = simp (le-ltb group_limit (count_word words) few, le-leb (group_length (count_word words)) (length words) enough, x)
 
-      pub group_read : (i : ℕ) (g : Group) → GroupRead words (count_word words) i g → count_word words ≤ i → r ≡ record { legal = true; group = g } → r ≡ told_group words
-      group_read i g v l e =
-          let q : i ≡ count_word words = omega (arith, v.upto) in
+      pub group_read : (i : ℕ) (g : Group) → GroupRead words (count_word words) i g → i ≡ count_word words → Some g ≡ told_group words
+      group_read i g v q =
           let x = legal_group (rw q at v.legal) in
           let h : g ≡ words_group words = same g v.count (rw q at v.jobs) in
-          e ∙ rw h (simp x)
+          rw h (simp x)
         where
           same : (g : Group) {n : ℕ} {js : List Job} → g.count ≡ n → g.jobs ≡ js → g ≡ record { count = n; jobs = js }
           same g a b = rw (← a, ← b)
@@ -220,7 +210,6 @@ whole_record j words e =
     stored_enough (record_words j) words (omega arith) ∙ rw (drop_of_length-le words {i = length (record_words j)} (omega arith)) (append-nil (record_words j))
 
 pub record Storing (g : Group) (words₀ words : List ℕ) (i : ℕ) : Type 0 where
-  pub upto : i ≤ g.count
   pub long : length words ≡ length words₀
   pub done : words ≡ (g.count ∷ jobs_words g.jobs i) ++ drop (group_length i) words₀
 
@@ -233,7 +222,7 @@ begun_long g words h = rw (length-set words 0 g.count) h
 
 pub storing_first : (g : Group) (words : List ℕ) → 1 ≤ length words → Storing g (begun g words) (begun g words) 0
 unfolding jobs_words
-storing_first g words h = record { upto = omega arith; long = refl; done = first words h }
+storing_first g words h = record { long = refl; done = first words h }
   where
     first : (words : List ℕ) → 1 ≤ length words → begun g words ≡ (g.count ∷ jobs_words g.jobs 0) ++ drop 1 (begun g words)
     first [] h = absurd (omega arith)
@@ -254,7 +243,6 @@ module _ {g : Group} {words₀ words : List ℕ} {i : ℕ} (v : Storing g words�
       let b : group_length i + record_length ≡ group_length (suc i) = omega arith in
       let n : (g.count ∷ jobs_words g.jobs i) ++ record_words (job_at g.jobs i) ≡ g.count ∷ jobs_words g.jobs (suc i) = ap (λ (x : List ℕ). g.count ∷ x) (sym (jobs_words_next g.jobs i)) in
       record {
-        upto = omega arith;
         long = same_len_mid (group_length i) (group_length i + record_length - group_length i) words ys (rw (d, part) (ap length y ∙ record_long (job_at g.jobs i))) ∙ v.long;
         done = rw (add-one i, y, d, drop-drop record_length (group_length i) words) (s ∙ ap (λ (x : List ℕ). x ++ drop (group_length i + record_length) words₀) n ∙ ap (λ (k : ℕ). (g.count ∷ jobs_words g.jobs (suc i)) ++ drop k words₀) b);
       }
@@ -273,9 +261,8 @@ module _ (g : Group) (words : List ℕ) where
     unfolding stored_group
     stored_all h = rw (le-ltb group_limit g.count few) (stored_enough (group_words g) words (omega (arith, group_long g)) ∙ ap (λ (k : ℕ). group_words g ++ drop k words) (group_long g))
 
-    pub group_stored : (words' : List ℕ) (i : ℕ) → group_length g.count ≤ length words → Storing g (begun g words) words' i → g.count ≤ i → words' ≡ stored_group g words
-    group_stored words' i h v l =
-        let q : i ≡ g.count = omega (arith, v.upto) in
+    pub group_stored : (words' : List ℕ) (i : ℕ) → group_length g.count ≤ length words → Storing g (begun g words) words' i → i ≡ g.count → words' ≡ stored_group g words
+    group_stored words' i h v q =
         v.done ∙ rw (q, drop-set-lt (group_length g.count) words 0 g.count (omega arith)) (sym (stored_all h))
 
 -- ---- reading what was written: the words of any group within the limit are legal and make that group again, with the record of zeros beyond its count. With
@@ -334,7 +321,7 @@ module _ (g : Group) (rest : List ℕ) (few : g.count ≤ group_limit) where
   group_words_legal =
       let long : group_length g.count ≤ length (group_words g ++ rest) = omega (arith, length-append (group_words g) rest, group_long g) in
       let each = every_of (λ i. words_legal (job_words (group_words g ++ rest) i)) g.count (λ i l. rw (written_job g rest i l) (own_legal (job_at g.jobs i))) in
-      legal_group (group_words g ++ rest) nothing_told few long each
+      legal_group (group_words g ++ rest) few long each
 
   pub group_read_back : words_group (group_words g ++ rest) ≡ counted g
   group_read_back =
@@ -404,32 +391,32 @@ group_written words e =
     ∙ sym first
 
 -- ---- what is known of words by what they tell
-told_plans_lem : (b : Bool) (ps : List Plan) (got : ToldPlans) → got ≡ cond b (record { legal = true; plans = ps }) no_plans → got.legal ≡ true → (b ≡ true) × (got.plans ≡ ps)
-told_plans_lem true ps got e l = (refl, ap (λ (t : ToldPlans). t.plans) e)
-told_plans_lem false ps got e l = absurd (true≢false (sym l ∙ ap (λ (t : ToldPlans). t.legal) e))
+abbrev is_some : {T : Type 0} → Option T → Bool
+is_some (Some x) = true
+is_some None = false
 
-no_plans_told : (b : Bool) (ps : List Plan) (got : ToldPlans) → got ≡ cond b (record { legal = true; plans = ps }) no_plans → got.legal ≡ false → b ≡ false
-no_plans_told true ps got e l = absurd (true≢false (sym (ap (λ (t : ToldPlans). t.legal) e) ∙ l))
-no_plans_told false ps got e l = refl
+abbrev some_or : {T : Type 0} → T → Option T → T
+some_or other (Some x) = x
+some_or other None = other
 
-module _ (words : List ℕ) (count lent : ℕ) (got : ToldPlans) (e : got ≡ told_plans words count lent) where
-  pub plans_legal_lem : got.legal ≡ true → (plans_legal words (looked count) lent ≡ true) × (got.plans ≡ plans_of words (looked count))
-  plans_legal_lem l = told_plans_lem (plans_legal words (looked count) lent) (plans_of words (looked count)) got e l
+some_told : {T : Type 0} (b : Bool) (x y : T) → Some y ≡ cond b (Some x) None → (b ≡ true) × (y ≡ x)
+some_told true x y e = (refl, ap (some_or x) e)
+some_told false x y e = absurd (true≢false (ap is_some e))
 
-  pub plans_illegal : got.legal ≡ false → plans_legal words (looked count) lent ≡ false
-  plans_illegal l = no_plans_told (plans_legal words (looked count) lent) (plans_of words (looked count)) got e l
+none_told_lem : {T : Type 0} (b : Bool) (x : T) → None ≡ cond b (Some x) None → b ≡ false
+none_told_lem true x e = absurd (true≢false (sym (ap is_some e)))
+none_told_lem false x e = refl
 
-told_group_lem : (b : Bool) (g : Group) (got : ToldGroup) → got ≡ cond b (record { legal = true; group = g }) nothing_told → got.legal ≡ true → (b ≡ true) × (got.group ≡ g)
-told_group_lem true g got e l = (refl, ap (λ (t : ToldGroup). t.group) e)
-told_group_lem false g got e l = absurd (true≢false (sym l ∙ ap (λ (t : ToldGroup). t.legal) e))
+module _ (words : List ℕ) (count lent : ℕ) {got : Option (List Plan)} (e : got ≡ told_plans words count lent) where
+  pub plans_legal_lem : (plans : List Plan) → got ≡ Some plans → (plans_legal words (looked count) lent ≡ true) × (plans ≡ plans_of words (looked count))
+  plans_legal_lem plans h = some_told (plans_legal words (looked count) lent) (plans_of words (looked count)) plans (sym h ∙ e)
 
-no_group_told : (b : Bool) (g : Group) (got : ToldGroup) → got ≡ cond b (record { legal = true; group = g }) nothing_told → got.legal ≡ false → b ≡ false
-no_group_told true g got e l = absurd (true≢false (sym (ap (λ (t : ToldGroup). t.legal) e) ∙ l))
-no_group_told false g got e l = refl
+  pub plans_illegal : got ≡ None → plans_legal words (looked count) lent ≡ false
+  plans_illegal h = none_told_lem (plans_legal words (looked count) lent) (plans_of words (looked count)) (sym h ∙ e)
 
-module _ (words : List ℕ) (got : ToldGroup) (e : got ≡ told_group words) where
-  pub group_legal_lem : got.legal ≡ true → (group_legal words ≡ true) × (got.group ≡ words_group words)
-  group_legal_lem l = told_group_lem (group_legal words) (words_group words) got e l
+module _ (words : List ℕ) {got : Option Group} (e : got ≡ told_group words) where
+  pub group_legal_lem : (group : Group) → got ≡ Some group → (group_legal words ≡ true) × (group ≡ words_group words)
+  group_legal_lem group h = some_told (group_legal words) (words_group words) group (sym h ∙ e)
 
-  pub group_illegal : got.legal ≡ false → group_legal words ≡ false
-  group_illegal l = no_group_told (group_legal words) (words_group words) got e l
+  pub group_illegal : got ≡ None → group_legal words ≡ false
+  group_illegal h = none_told_lem (group_legal words) (words_group words) (sym h ∙ e)

@@ -1,6 +1,6 @@
 -- The record of a group as words, and the plans of its jobs (SCOPE, "Groups"): the count of jobs, then the words of each job's record; so the words needed depend
 -- on the count and not on the limit. Words after the last are the caller's. Assumes nothing.
-use Rattle.std.specs.Prelude.{ℕ, zero, suc, ◌+◌, ◌*◌, Bool, true, false, cond, not, ◌&&◌, List, [], ◌∷◌, ◌++◌, leb, length, get_or, take, drop, set, replicate}
+use Rattle.std.specs.Prelude.{ℕ, zero, suc, ◌+◌, ◌*◌, Bool, cond, not, ◌&&◌, Option, Some, None, List, [], ◌∷◌, ◌++◌, leb, length, get_or, take, drop, set, replicate}
 use Rattle.pixels.specs.declared.Refusal.TheVariants.{InvalidRecord}
 use Rattle.pixels.specs.Refusals.{number}
 use Rattle.pixels.specs.Sizes.{size_of, rect_of}
@@ -10,11 +10,7 @@ use Rattle.job.specs.Record.{fresh}
 use Rattle.group_rules.specs.declared.Group.{Group}
 use Rattle.group_rules.specs.Group.{group_limit, spare, job_at, every, too_many, looked}
 use Rattle.capi_words.specs.Words.{is_layout, word_layout, stored}
-use Rattle.capi_record.specs.declared.Told.{Told}
-use Rattle.capi_record.specs.declared.Told.TheVariants as told
 use Rattle.capi_record.specs.Record.{is_kind, word_kind, record_length, record_words, words_job, words_legal}
-use Rattle.capi_group_record.specs.declared.ToldPlans.{ToldPlans}
-use Rattle.capi_group_record.specs.declared.ToldGroup.{ToldGroup}
 
 -- ---- the plans that a start is given
 
@@ -46,8 +42,8 @@ abbrev pub group_length : ℕ → ℕ
 group_length n = 1 + record_length * n
 
 -- what one plan's words tell: the fresh record, or nothing
-abbrev pub told_plan : List ℕ → Told
-told_plan words = cond (plan_legal words) (told.Job (fresh (plan_of_words words))) told.Nothing
+abbrev pub told_plan : List ℕ → Option Job
+told_plan words = cond (plan_legal words) (Some (fresh (plan_of_words words))) None
 
 -- n plans can be read, and their group's record has room in so many words lent
 unfoldable pub plans_legal : List ℕ → ℕ → ℕ → Bool
@@ -61,12 +57,9 @@ unfoldable pub plans_of : List ℕ → ℕ → List Plan
 plans_of words zero = replicate group_limit spare.plan
 plans_of words (suc i) = set (plans_of words i) i (plan_of_words (plan_words words i))
 
-abbrev pub no_plans : ToldPlans
-no_plans = record { legal = false; plans = replicate group_limit spare.plan }
-
 -- what the words of count plans tell, of which a start looks at the first so many only
-abbrev pub told_plans : List ℕ → ℕ → ℕ → ToldPlans
-told_plans words count lent = cond (plans_legal words (looked count) lent) (record { legal = true; plans = plans_of words (looked count) }) no_plans
+abbrev pub told_plans : List ℕ → ℕ → ℕ → Option (List Plan)
+told_plans words count lent = cond (plans_legal words (looked count) lent) (Some (plans_of words (looked count))) None
 
 -- ---- the group's record
 
@@ -96,15 +89,9 @@ group_by f n = record { count = n; jobs = jobs_by f n }
 abbrev pub words_group : List ℕ → Group
 words_group words = group_by (λ i. words_job (job_words words i)) (count_word words)
 
-abbrev pub no_group : Group
-no_group = record { count = 0; jobs = replicate group_limit spare }
-
-abbrev pub nothing_told : ToldGroup
-nothing_told = record { legal = false; group = no_group }
-
--- what words tell: a group, or a group of no jobs where they make none
-abbrev pub told_group : List ℕ → ToldGroup
-told_group words = cond (group_legal words) (record { legal = true; group = words_group words }) nothing_told
+-- what words tell: a group, or nothing where they make none
+abbrev pub told_group : List ℕ → Option Group
+told_group words = cond (group_legal words) (Some (words_group words)) None
 
 -- the words of the first n jobs
 unfoldable pub jobs_words : List Job → ℕ → List ℕ

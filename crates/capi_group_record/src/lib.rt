@@ -2,45 +2,20 @@
 #![tactic(auto)]
 
 ghost use Rattle.std.specs.Prelude.{◌≡◌, ◌≤◌, length};
-ghost use Rattle.capi_group_record.specs.GroupRecord.{plan_length, told_plan, no_plans, told_plans, no_group, nothing_told, told_group, stored_group};
+ghost use Rattle.capi_group_record.specs.GroupRecord.{plan_length, told_plan, told_plans, told_group, stored_group};
 
-use capi_record::{RECORD_WORDS, Told, read_job, store_job};
+use capi_record::{RECORD_WORDS, read_job, store_job};
 use group_rules::{GROUP_LIMIT, Group, looked_at, no_job};
+use job::Job;
 use job_rules::Plan;
 
 // How many words a plan takes: those of a record without rows accepted, rows taken and the flag.
 pub const PLAN_WORDS: usize = 11;
 
-// What the words of plans tell: whether they are plans, and which.
-#[derive(Clone, Copy)]
-pub struct ToldPlans {
-    pub legal: bool,
-    pub plans: [Plan; GROUP_LIMIT],
-}
-
-// What the words of a group's record tell: whether they make one, and the group.
-#[derive(Clone, Copy)]
-pub struct ToldGroup {
-    pub legal: bool,
-    pub group: Group,
-}
-
 // ---- the plans of a start
 
-// No plans.
-fn no_plans() -> ToldPlans
-    ensures { result ≡ no_plans }
-{
-    let none = no_job();
-    let plan = none.plan;
-    ToldPlans {
-        legal: false,
-        plans: [plan; GROUP_LIMIT],
-    }
-}
-
 // The fresh record of the plan that words tell.
-fn read_plan(words: &[u32]) -> Told
+fn read_plan(words: &[u32]) -> Option<Job>
     requires { plan_length ≤ length words.now }
     ensures { result ≡ told_plan words.now }
 {
@@ -54,87 +29,57 @@ fn read_plan(words: &[u32]) -> Told
 // The plans that words tell, where there are enough of them and so many words lent have room for the group's record; a start looks at the first of them only, up
 // to the limit.
 // Rules out: kind and lanes read from each other's words; one word more than they take asked for the group's record.
-pub fn read_plans(words: &[u32], count: u32, lent: usize) -> ToldPlans
+pub fn read_plans(words: &[u32], count: u32, lent: usize) -> Option<[Plan; GROUP_LIMIT]>
     ensures { result ≡ told_plans words.now count lent }
 {
     let n = looked_at(count);
     if words.len() < PLAN_WORDS * n {
-        return no_plans();
+        return None;
     }
     if lent < 1 + RECORD_WORDS * n {
-        return no_plans();
+        return None;
     }
-    let mut told = no_plans();
-    let mut i = 0;
-    while i < n {
+    let mut plans = [no_job().plan; GROUP_LIMIT];
+    for i in 0..n {
         let at = PLAN_WORDS * i;
-        let one = read_plan(&words[at..at + PLAN_WORDS]);
-        let Told::Job { job } = one else {
-            return no_plans();
+        let Some(job) = read_plan(&words[at..at + PLAN_WORDS]) else {
+            return None;
         };
-        let plan = job.plan;
-        told.plans[i] = plan;
-        i += 1;
+        plans[i] = job.plan;
     }
-    told.legal = true;
-    told
+    Some(plans)
 }
 
 // ---- the group's record
 
-// A group of no jobs.
-fn no_group() -> Group
-    ensures { result ≡ no_group }
-{
-    let none = no_job();
-    Group {
-        count: 0,
-        jobs: [none; GROUP_LIMIT],
-    }
-}
-
-// What words that make no group tell.
-fn nothing() -> ToldGroup
-    ensures { result ≡ nothing_told }
-{
-    ToldGroup {
-        legal: false,
-        group: no_group(),
-    }
-}
-
 // The group that words tell; whether it meets the rules is for the group to say. Beyond the count stands the record of zeros.
 // Rules out: as many jobs as the limit taken for too many; a count that is not read.
-pub fn read_group(words: &[u32]) -> ToldGroup
+pub fn read_group(words: &[u32]) -> Option<Group>
     ensures { result ≡ told_group words.now }
 {
     if words.len() < 1 {
-        return nothing();
+        return None;
     }
     let count = words[0];
     let n = count as usize;
     if GROUP_LIMIT < n {
-        return nothing();
+        return None;
     }
     if words.len() < 1 + RECORD_WORDS * n {
-        return nothing();
+        return None;
     }
-    let mut group = no_group();
-    group.count = count;
-    let mut i = 0;
-    while i < n {
+    let mut group = Group {
+        count,
+        jobs: [no_job(); GROUP_LIMIT],
+    };
+    for i in 0..n {
         let at = 1 + RECORD_WORDS * i;
-        let one = read_job(&words[at..at + RECORD_WORDS]);
-        let Told::Job { job } = one else {
-            return nothing();
+        let Some(job) = read_job(&words[at..at + RECORD_WORDS]) else {
+            return None;
         };
         group.jobs[i] = job;
-        i += 1;
     }
-    ToldGroup {
-        legal: true,
-        group: group,
-    }
+    Some(group)
 }
 
 // Stores the words of a group; fewer words than it takes stay as they were, and so they do for more jobs than a group has.
@@ -150,11 +95,9 @@ pub fn store_group(group: Group, words: &mut [u32])
         return;
     }
     words[0] = group.count;
-    let mut i = 0;
-    while i < n {
+    for i in 0..n {
         let at = 1 + RECORD_WORDS * i;
         let job = group.jobs[i];
         store_job(job, &mut words[at..at + RECORD_WORDS]);
-        i += 1;
     }
 }

@@ -1,5 +1,6 @@
 -- What each way out of start, offer and take gives, as the contracts state it. Where the call went through, the record that the library hands back is the one
 -- that is stored. Assumes nothing.
+use Rattle.std.specs.Prelude.{Option, Some, None, Result, Ok, Err, ⊤}
 use Prim.Native.Nat.{ℕ, ◌≤◌}
 use mathlib.Core.Path.{◌≡◌, sym, ◌∙◌}
 use mathlib.Core.Bool.{Bool, false}
@@ -7,22 +8,13 @@ use mathlib.Core.List.{List}
 use lib.ListN.{length}
 use Rattle.pixels.specs.declared.Refusal.{Refusal}
 use Rattle.pixels.specs.declared.Refusal.TheVariants.{InvalidRecord}
-use Rattle.pixels.specs.Refusals.{number, buffer_if}
+use Rattle.pixels.specs.Refusals.{number, buffer_if, answer_number, value_or}
 use Rattle.job_rules.specs.declared.Plan.{Plan}
 use Rattle.job_rules.specs.Rules.{start_number}
 use Rattle.job.specs.declared.Job.{Job}
-use Rattle.job.specs.declared.Offered.{Offered}
-use Rattle.job.specs.declared.Offered.TheVariants as offered
-use Rattle.job.specs.declared.Taken.{Taken}
-use Rattle.job.specs.declared.Taken.TheVariants as taken
-use Rattle.job.specs.Answers.{offered_number, offered_rows, offered_job, taken_number, taken_job}
 use Rattle.job.specs.Record.{fresh}
 use Rattle.job.specs.Calls.{offer_number, offer_rows, offer_job, offer_work, take_number, take_job, take_out, take_work}
-use Rattle.job_start.specs.declared.Started.{Started}
-use Rattle.job_start.specs.declared.Started.TheVariants as started
-use Rattle.job_start.specs.Start.{started_number, started_job, start_work}
-use Rattle.capi_record.specs.declared.Told.{Told}
-use Rattle.capi_record.specs.declared.Told.TheVariants as told
+use Rattle.job_start.specs.Start.{start_work}
 use Rattle.capi_record.specs.Record.{words_job, told_by, stored_job, record_first}
 use Rattle.capi_words.specs.Boundary.{boundary_first, stored_word}
 use Rattle.capi_record.proofs.Records.{job_legal}
@@ -32,8 +24,8 @@ use Rattle.capi_words.proofs.Boundary.{kept_by, written_by, written_once, passed
 use Rattle.capi_jobs.specs.Jobs.{number_of_offer, record_after_offer, work_after_offer, count_after_offer, number_of_take, record_after_take, out_after_take, work_after_take}
 
 -- ---- start: b is the boundary's test, and n the number told
-module _ (p : Plan) (work words next : List ℕ) (answer : Started) {t b : Bool} (e : t ≡ b) (f : t ≡ false)
-    (m : started_number answer ≡ start_number p (length work)) (w : next ≡ start_work p work) where
+module _ (p : Plan) (work words next : List ℕ) (answer : Result Job Refusal) {t b : Bool} (e : t ≡ b) (f : t ≡ false)
+    (m : answer_number answer ≡ start_number p (length work)) (w : next ≡ start_work p work) where
   abbrev n : ℕ
   n = boundary_first b (start_number p (length work))
 
@@ -43,7 +35,7 @@ module _ (p : Plan) (work words next : List ℕ) (answer : Started) {t b : Bool}
       let x = start_number p (length work) in
       buffer_told n x next _ work (passed x e f) (w ∙ written_once x _ work)
 
-  pub start_refused : (why : Refusal) (r : ℕ) → answer ≡ started.Refused why → r ≡ number why
+  pub start_refused : (why : Refusal) (r : ℕ) → answer ≡ Err why → r ≡ number why
       → (r ≡ boundary_first b (start_number p (length work)))
       × ((next ≡ buffer_if (boundary_first b (start_number p (length work))) (start_work p work) work)
       × (words ≡ buffer_if (boundary_first b (start_number p (length work))) (stored_job (fresh p) words) words))
@@ -51,7 +43,7 @@ module _ (p : Plan) (work words next : List ℕ) (answer : Started) {t b : Bool}
       let z : number why ≡ n = (rw a at m) ∙ passed (start_number p (length work)) e f in
       (h ∙ z, (start_work_lem, kept_by why n _ words (sym z)))
 
-  pub start_fresh : (job : Job) (words' : List ℕ) → answer ≡ started.Fresh job → started_job (fresh p) answer ≡ fresh p → words' ≡ stored_job job words
+  pub start_fresh : (job : Job) (words' : List ℕ) → answer ≡ Ok job → value_or (fresh p) answer ≡ fresh p → words' ≡ stored_job job words
       → (0 ≡ boundary_first b (start_number p (length work)))
       × ((next ≡ buffer_if (boundary_first b (start_number p (length work))) (start_work p work) work)
       × (words' ≡ buffer_if (boundary_first b (start_number p (length work))) (stored_job (fresh p) words) words))
@@ -74,7 +66,7 @@ module _ (words rows work count : List ℕ) (lent : 1 ≤ length count) where
   abbrev work_of : Job → List ℕ
   work_of j = offer_work j rows work
 
-  pub offer_no_record : (r : ℕ) {t : Told} → t ≡ told_by words → t ≡ told.Nothing → r ≡ number InvalidRecord
+  pub offer_no_record : (r : ℕ) {t : Option Job} → t ≡ told_by words → t ≡ None → r ≡ number InvalidRecord
       → (r ≡ number_of_offer words (length rows) (length work) (length count))
       × ((words ≡ record_after_offer words (length rows) (length work) (length count))
       × ((work ≡ work_after_offer words rows work (length count)) × (count ≡ count_after_offer words (length rows) (length work) count)))
@@ -82,30 +74,30 @@ module _ (words rows work count : List ℕ) (lent : 1 ≤ length count) where
   offer_no_record r e f h = offers.none_told words work count lent number_of rows_of next_of work_of r e f h
 
   -- to the job j that the words tell
-  module _ (j : Job) {t : Told} (e : t ≡ told_by words) (f : t ≡ told.Job j) (answer : Offered) (m : offered_number answer ≡ number_of j)
+  module _ (j : Job) {t : Option Job} (e : t ≡ told_by words) (f : t ≡ Some j) (said : Result ℕ Refusal) (m : answer_number said ≡ number_of j)
       (next : List ℕ) (w : next ≡ offer_work j rows work) where
     once : next ≡ buffer_if (number_of j) (work_of j) work
     unfolding offer_work
     once = w ∙ written_once (number_of j) _ work
 
-    pub offer_refused : (why : Refusal) (job : Job) (r : ℕ) → answer ≡ offered.Refused why job → r ≡ number why
+    pub offer_refused : (why : Refusal) (r : ℕ) → said ≡ Err why → r ≡ number why
         → (r ≡ number_of_offer words (length rows) (length work) (length count))
         × ((words ≡ record_after_offer words (length rows) (length work) (length count))
         × ((next ≡ work_after_offer words rows work (length count)) × (count ≡ count_after_offer words (length rows) (length work) count)))
     unfolding number_of_offer record_after_offer work_after_offer count_after_offer
-    offer_refused why job r a h = offers.offer_refused words work count lent number_of rows_of next_of work_of j e f answer m next once why job r a h
+    offer_refused why r a h = offers.offer_refused words work count lent number_of rows_of next_of work_of j e f said m next once why r a h
 
-    pub offer_accepted : (n : ℕ) (job : Job) (words' count' : List ℕ) → answer ≡ offered.Accepted n job → offered_rows answer ≡ rows_of j
-        → offered_job answer ≡ next_of j → words' ≡ stored_job job words → count' ≡ stored_word n count
+    pub offer_accepted : (n : ℕ) (job : Job) (words' count' : List ℕ) → said ≡ Ok n → value_or 0 said ≡ rows_of j
+        → job ≡ next_of j → words' ≡ stored_job job words → count' ≡ stored_word n count
         → (0 ≡ number_of_offer words (length rows) (length work) (length count))
         × ((words' ≡ record_after_offer words (length rows) (length work) (length count))
         × ((next ≡ work_after_offer words rows work (length count)) × (count' ≡ count_after_offer words (length rows) (length work) count)))
     unfolding number_of_offer record_after_offer work_after_offer count_after_offer
     offer_accepted n job words' count' a c o s u =
-        offers.offer_accepted words work count lent number_of rows_of next_of work_of j e f answer m next once n job words' count' a c o s u
+        offers.offer_accepted words work count lent number_of rows_of next_of work_of j e f said m next once n job words' count' a c o s u
 
 -- ---- take
-pub take_no_record : (words out work : List ℕ) (r : ℕ) {t : Told} → t ≡ told_by words → t ≡ told.Nothing → r ≡ number InvalidRecord
+pub take_no_record : (words out work : List ℕ) (r : ℕ) {t : Option Job} → t ≡ told_by words → t ≡ None → r ≡ number InvalidRecord
     → (r ≡ number_of_take words (length out) (length work))
     × ((words ≡ record_after_take words (length out) work) × ((out ≡ out_after_take words out work) × (work ≡ work_after_take words (length out) work)))
 unfolding number_of_take record_after_take out_after_take work_after_take
@@ -115,8 +107,8 @@ take_no_record words out work r e f h =
     (z, (kept_by InvalidRecord _ _ words k, (kept_by InvalidRecord _ _ out k, kept_by InvalidRecord _ _ work k)))
 
 -- ---- take from the job j that the words tell
-module _ (words out work out' work' : List ℕ) (j : Job) {t : Told} (e : t ≡ told_by words) (f : t ≡ told.Job j) (answer : Taken)
-    (m : taken_number answer ≡ take_number j (length out) (length work)) (o : out' ≡ take_out j out work) (w : work' ≡ take_work j (length out) work) where
+module _ (words out work out' work' : List ℕ) (j : Job) {t : Option Job} (e : t ≡ told_by words) (f : t ≡ Some j) (said : Result ⊤ Refusal)
+    (m : answer_number said ≡ take_number j (length out) (length work)) (o : out' ≡ take_out j out work) (w : work' ≡ take_work j (length out) work) where
   told_by_lem : j ≡ words_job words
   told_by_lem = sym (job_legal words j (sym e ∙ f)).1
 
@@ -138,19 +130,19 @@ module _ (words out work out' work' : List ℕ) (j : Job) {t : Told} (e : t ≡ 
       let x = take_number j (length out) (length work) in
       rw (← told_by_lem) (buffer_told _ x work' _ work take_number_lem (w ∙ written_once x _ work))
 
-  pub take_refused : (why : Refusal) (job : Job) (r : ℕ) → answer ≡ taken.Refused why job → r ≡ number why
+  pub take_refused : (why : Refusal) (r : ℕ) → said ≡ Err why → r ≡ number why
       → (r ≡ number_of_take words (length out) (length work))
       × ((words ≡ record_after_take words (length out) work) × ((out' ≡ out_after_take words out work) × (work' ≡ work_after_take words (length out) work)))
   unfolding record_after_take
-  take_refused why job r a h =
+  take_refused why r a h =
       let z : number why ≡ number_of_take words (length out) (length work) = (rw a at m) ∙ take_number_lem in
       (h ∙ z, (kept_by why _ _ words (sym z), (out_is, left_is)))
 
-  pub take_wrote : (job : Job) (words' : List ℕ) → answer ≡ taken.Wrote job → taken_job answer ≡ take_job j (length out) work → words' ≡ stored_job job words
+  pub take_wrote : {u : ⊤} (job : Job) (words' : List ℕ) → said ≡ Ok u → job ≡ take_job j (length out) work → words' ≡ stored_job job words
       → (0 ≡ number_of_take words (length out) (length work))
       × ((words' ≡ record_after_take words (length out) work) × ((out' ≡ out_after_take words out work) × (work' ≡ work_after_take words (length out) work)))
   unfolding record_after_take
   take_wrote job words' a c s =
       let z : 0 ≡ number_of_take words (length out) (length work) = (rw a at m) ∙ take_number_lem in
-      let y : job ≡ take_job (words_job words) (length out) work = rw (a, told_by_lem) at c in
+      let y : job ≡ take_job (words_job words) (length out) work = rw told_by_lem at c in
       (z, (written_by _ words' _ words z (rw y at s), (out_is, left_is)))

@@ -6,10 +6,9 @@
 ghost use Rattle.std.specs.Prelude.{◌≡◌, length};
 ghost use Rattle.capi_jobs.specs.Jobs.{number_of_start, work_after_start, record_after_start, number_of_offer, record_after_offer, work_after_offer, count_after_offer, number_of_take, record_after_take, out_after_take, work_after_take};
 
-use capi_record::{RECORD_WORDS, Told, read_job, store_job};
+use capi_record::{RECORD_WORDS, read_job, store_job};
 use capi_words::{BOUNDARY, layout_of, misused, store};
-use job::{Offered, Taken};
-use job_start::{Started, start};
+use job_start::start;
 use pixels::{Dimensions, Rect, Refusal};
 
 // A fresh job: its record in lent words, and the work rows cleared.
@@ -51,8 +50,8 @@ pub extern "C" fn jonquilsaw_start(
     };
     let answer = start(source, layout_of(layout), crop, target, work);
     match answer {
-        Started::Refused { why } => why.number(),
-        Started::Fresh { job } => {
+        Err(why) => why.number(),
+        Ok(job) => {
             store_job(job, record);
             0
         }
@@ -76,15 +75,14 @@ pub extern "C" fn jonquilsaw_offer(
     if count.len() < 1 {
         return BOUNDARY;
     }
-    let told = read_job(record);
-    let Told::Job { job } = told else {
+    let Some(job) = read_job(record) else {
         return Refusal::InvalidRecord.number();
     };
-    let answer = job.offer(rows, work);
-    match answer {
-        Offered::Refused { why, job: _ } => why.number(),
-        Offered::Accepted { rows: n, job: next } => {
-            store_job(next, record);
+    let offered = job.offer(rows, work);
+    match offered.said {
+        Err(why) => why.number(),
+        Ok(n) => {
+            store_job(offered.next, record);
             store(&[n], count);
             0
         }
@@ -100,15 +98,14 @@ pub extern "C" fn jonquilsaw_take(record: &mut [u32], out: &mut [u8], work: &mut
     ensures out { out.new ≡ out_after_take «record».old out.old work.old }
     ensures work { work.new ≡ work_after_take «record».old (length out.old) work.old }
 {
-    let told = read_job(record);
-    let Told::Job { job } = told else {
+    let Some(job) = read_job(record) else {
         return Refusal::InvalidRecord.number();
     };
-    let answer = job.take(out, work);
-    match answer {
-        Taken::Refused { why, job: _ } => why.number(),
-        Taken::Wrote { job: next } => {
-            store_job(next, record);
+    let taken = job.take(out, work);
+    match taken.said {
+        Err(refusal) => refusal.number(),
+        Ok(()) => {
+            store_job(taken.next, record);
             0
         }
     }

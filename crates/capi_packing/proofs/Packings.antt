@@ -1,12 +1,13 @@
 -- What packing and unpacking come to, as their contracts state it: l is the layout that the word names, and what the library answered is said of l. Assumes nothing.
+use Rattle.pixels.specs.declared.Refusal.{Refusal}
+use Rattle.std.specs.Prelude.{Result, ⊤}
 use Prim.Native.Nat.{ℕ, ◌≤◌, ◌<◌}
 use mathlib.Core.Path.{◌≡◌, refl, ◌∙◌}
 use mathlib.Core.Bool.{Bool, true, false, not}
 use mathlib.Core.List.{List, [], ◌∷◌}
 use lib.ListN.{length}
 use borrow.Author.Tests.{lt-ltb, le-ltb}
-use Rattle.pixels.specs.declared.Checked.{Checked}
-use Rattle.pixels.specs.Refusals.{checked_number}
+use Rattle.pixels.specs.Refusals.{answer_number}
 use Rattle.pixels_layout.specs.declared.PixelLayout.{PixelLayout}
 use Rattle.pixels_layout.specs.Layout.{pack_number, unpack_number, pack_out, unpack_out}
 use Rattle.pixels_alpha.specs.Alpha.{argb_has_alpha}
@@ -31,8 +32,8 @@ module _ (layout : ℕ) (argb out : List ℕ) where
   unfolding number_of_pack out_after_pack
   pack_misused h = (misuse_told _ refl (no_layout layout h), misuse_kept _ refl (no_layout layout h) _ out)
 
-  pub pack_told : layout < 3 → (l : PixelLayout) → l ≡ word_layout layout → (answer : Checked) → checked_number answer ≡ pack_number (length argb) (length out)
-      → (out' : List ℕ) → out' ≡ pack_out l argb out → (r : ℕ) → r ≡ checked_number answer → Pack r out'
+  pub pack_told : layout < 3 → (l : PixelLayout) → l ≡ word_layout layout → (answer : Result ⊤ Refusal) → answer_number answer ≡ pack_number (length argb) (length out)
+      → (out' : List ℕ) → out' ≡ pack_out l argb out → (r : ℕ) → r ≡ answer_number answer → Pack r out'
   unfolding number_of_pack out_after_pack pack_out
   pack_told h l is answer m out' o r s =
       let p = passed (pack_number (length argb) (length out)) refl (some_layout layout h) in
@@ -47,8 +48,8 @@ module _ (layout : ℕ) (bytes argb : List ℕ) where
   unfolding number_of_unpack argb_after_unpack
   unpack_misused h = (misuse_told _ refl (no_layout layout h), misuse_kept _ refl (no_layout layout h) _ argb)
 
-  pub unpack_told : layout < 3 → (l : PixelLayout) → l ≡ word_layout layout → (answer : Checked) → checked_number answer ≡ unpack_number (length bytes) (length argb)
-      → (argb' : List ℕ) → argb' ≡ unpack_out l bytes argb → (r : ℕ) → r ≡ checked_number answer → Unpack r argb'
+  pub unpack_told : layout < 3 → (l : PixelLayout) → l ≡ word_layout layout → (answer : Result ⊤ Refusal) → answer_number answer ≡ unpack_number (length bytes) (length argb)
+      → (argb' : List ℕ) → argb' ≡ unpack_out l bytes argb → (r : ℕ) → r ≡ answer_number answer → Unpack r argb'
   unfolding number_of_unpack argb_after_unpack unpack_out
   unpack_told h l is answer m argb' o r s =
       let p = passed (unpack_number (length bytes) (length argb)) refl (some_layout layout h) in

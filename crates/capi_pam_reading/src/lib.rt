@@ -9,19 +9,15 @@ ghost use Rattle.capi_words.specs.Words.{flag_word};
 ghost use Rattle.capi_pam_reading.specs.PamReading.{number_of_read_pam_header, answer_after_read_pam_header, number_of_pam_unfinished, flag_after_pam_unfinished, number_of_read_pam, size_after_read_pam};
 
 use capi_words::{BOUNDARY, flag_word, store};
-use pam_header::{PamHeader, pam_header};
+use pam_header::{PamPicture, pam_header};
 use pam_reading::pam_size;
-use pixels::{Refusal, Sized};
+use pixels::Refusal;
 
 // A header that is not finished, as a word.
-fn unfinished_word(header: PamHeader) -> u32
+fn unfinished_word(header: Result<Option<PamPicture>, Refusal>) -> u32
     ensures { result ≡ flag_word (answer_unfinished header) }
 {
-    match header {
-        PamHeader::Picture { .. } => 0,
-        PamHeader::Refused(_) => 0,
-        PamHeader::Unfinished => 1,
-    }
+    flag_word(matches!(header, Ok(None)))
 }
 
 // ---- the exported functions
@@ -36,13 +32,13 @@ pub extern "C" fn jonquilsaw_read_pam_header(input: &[u8], answer: &mut [u32]) -
     if answer.len() < 4 {
         return BOUNDARY;
     }
-    let header = pam_header(input);
-    match header {
-        PamHeader::Refused(why) => why.number(),
-        PamHeader::Unfinished => Refusal::PamMalformed.number(),
-        PamHeader::Picture { size, start } => {
-            let low = (start % 4294967296) as u32;
-            let high = (start / 4294967296) as u32;
+    match pam_header(input) {
+        Err(why) => why.number(),
+        Ok(None) => Refusal::PamMalformed.number(),
+        Ok(Some(picture)) => {
+            let size = picture.size;
+            let low = (picture.start % 4294967296) as u32;
+            let high = (picture.start / 4294967296) as u32;
             store(&[size.width, size.height, low, high], answer);
             0
         }
@@ -59,8 +55,7 @@ pub extern "C" fn jonquilsaw_pam_unfinished(input: &[u8], flag: &mut [u32]) -> u
     if flag.len() < 1 {
         return BOUNDARY;
     }
-    let header = pam_header(input);
-    store(&[unfinished_word(header)], flag);
+    store(&[unfinished_word(pam_header(input))], flag);
     0
 }
 
@@ -74,10 +69,9 @@ pub extern "C" fn jonquilsaw_read_pam(input: &[u8], size: &mut [u32]) -> u32
     if size.len() < 2 {
         return BOUNDARY;
     }
-    let answer = pam_size(input);
-    match answer {
-        Sized::Refused(why) => why.number(),
-        Sized::Size(d) => {
+    match pam_size(input) {
+        Err(why) => why.number(),
+        Ok(d) => {
             store(&[d.width, d.height], size);
             0
         }

@@ -1,5 +1,5 @@
 -- Each way out of the functions that write PAM pictures, as their contracts state it. Assumes nothing.
-use Prim.Native.Nat.{ℕ, ◌+◌, ◌≤◌, ◌<◌}
+use Prim.Native.Nat.{ℕ, ◌≤◌, ◌<◌}
 use mathlib.Core.Path.{◌≡◌, refl, sym, ◌∙◌}
 use mathlib.Core.List.{List}
 use native.Mathlib.Omega.{arith}
@@ -7,9 +7,7 @@ use lib.ListN.{length}
 use borrow.Author.Tests.{lt-ltb, le-ltb}
 use Rattle.pixels.specs.declared.Dimensions.{Dimensions}
 use Rattle.pixels.specs.declared.Refusal.{Refusal}
-use Rattle.pixels.specs.declared.Checked.{Checked}
-use Rattle.pixels.specs.declared.Checked.TheVariants as checked
-use Rattle.pixels.specs.Refusals.{number, buffer_if, checked_number}
+use Rattle.pixels.specs.Refusals.{number, buffer_if}
 use Rattle.pixels.specs.Sizes.{size_of, size_number}
 use Rattle.pam_heading.specs.Heading.{bytes_if}
 use Rattle.pam_heading.proofs.Chain.{heading_most}
@@ -54,11 +52,3 @@ pub file_most : (size : Dimensions) (k : ℕ) → 0 ≡ size_number size → k �
 file_most size k e l =
     let is : k ≡ file_bytes size = l ∙ simp (sym e) in
     omega (arith, is, heading_most size, area_most size (sym e))
-
--- ---- a picture or its header written: m is the library's number
-module _ (answer : Checked) (m : ℕ) (told : checked_number answer ≡ m) where
-  pub write_refused : (why : Refusal) → answer ≡ checked.Refused why → {r : ℕ} → r ≡ number why → r ≡ m
-  write_refused why e is = is ∙ (rw e at told)
-
-  pub write_done : answer ≡ checked.Fit → 0 ≡ m
-  write_done e = rw e at told

@@ -6,10 +6,10 @@
 ghost use Rattle.std.specs.Prelude.{◌≡◌, length};
 ghost use Rattle.capi_pam_writing.specs.PamWriting.{number_of_pam_length, bytes_after_pam_header_length, bytes_after_pam_length, number_of_write_pam_header, out_after_write_pam_header, number_of_write_pam, out_after_write_pam};
 
-use capi_words::{BOUNDARY, store};
-use pam_heading::{PamLength, pam_header_length, pam_write_header};
+use capi_words::{BOUNDARY, number_of, store};
+use pam_heading::{pam_header_length, pam_write_header};
 use pam_writing::{pam_length, pam_write};
-use pixels::{Checked, Dimensions};
+use pixels::Dimensions;
 
 // How long the header of a picture is, in one lent word.
 // Rules out: the picture taken for a square; a length cut at 64.
@@ -23,8 +23,8 @@ pub extern "C" fn jonquilsaw_pam_header_length(width: u32, height: u32, bytes: &
     }
     let header = pam_header_length(Dimensions { width, height });
     match header {
-        PamLength::Refused(why) => why.number(),
-        PamLength::Bytes(k) => {
+        Err(why) => why.number(),
+        Ok(k) => {
             let head = k as u32;
             store(&[head], bytes);
             0
@@ -44,8 +44,8 @@ pub extern "C" fn jonquilsaw_pam_length(width: u32, height: u32, bytes: &mut [u3
     }
     let file = pam_length(Dimensions { width, height });
     match file {
-        PamLength::Refused(why) => why.number(),
-        PamLength::Bytes(n) => {
+        Err(why) => why.number(),
+        Ok(n) => {
             let whole = n as u32;
             store(&[whole], bytes);
             0
@@ -61,10 +61,7 @@ pub extern "C" fn jonquilsaw_write_pam_header(width: u32, height: u32, out: &mut
     ensures out { out.new ≡ out_after_write_pam_header width height out.old }
 {
     let answer = pam_write_header(Dimensions { width, height }, out);
-    match answer {
-        Checked::Refused(why) => why.number(),
-        Checked::Fit => 0,
-    }
+    number_of(answer)
 }
 
 // Writes a picture of Rgba8 pixels.
@@ -80,8 +77,5 @@ pub extern "C" fn jonquilsaw_write_pam(
     ensures out { out.new ≡ out_after_write_pam width height pixels.now out.old }
 {
     let answer = pam_write(Dimensions { width, height }, pixels, out);
-    match answer {
-        Checked::Refused(why) => why.number(),
-        Checked::Fit => 0,
-    }
+    number_of(answer)
 }

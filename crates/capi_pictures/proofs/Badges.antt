@@ -1,13 +1,14 @@
 -- What laying a badge comes to, as its contract states it: two layout words are tested, and what the library answered is said of the layouts that they name.
 -- Assumes nothing.
+use Rattle.pixels.specs.declared.Refusal.{Refusal}
+use Rattle.std.specs.Prelude.{Result, ⊤}
 use Prim.Native.Nat.{ℕ, ◌≤◌, ◌<◌}
 use mathlib.Core.Path.{◌≡◌, refl, ◌∙◌}
 use mathlib.Core.Bool.{true, false, not, ◌||◌, or-true}
 use mathlib.Core.List.{List}
 use lib.ListN.{length}
 use borrow.Author.Tests.{lt-ltb, le-ltb}
-use Rattle.pixels.specs.declared.Checked.{Checked}
-use Rattle.pixels.specs.Refusals.{checked_number}
+use Rattle.pixels.specs.Refusals.{answer_number}
 use Rattle.pixels.specs.Sizes.{size_of}
 use Rattle.pixels_layout.specs.declared.PixelLayout.{PixelLayout}
 use Rattle.pixels_badge.specs.Badge.{badge_number, badge_out}
@@ -41,9 +42,9 @@ module _ (w h layout : ℕ) (pixels : List ℕ) (bw bh from : ℕ) (badge : List
   pub badge_misused_2 : 3 ≤ from → Badge boundary pixels
   badge_misused_2 e = none (second_none layout from e)
 
-  pub badge_told : layout < 3 → from < 3 → (l k : PixelLayout) → l ≡ word_layout layout → k ≡ word_layout from → (answer : Checked)
-      → checked_number answer ≡ badge_number (size_of w h) l pixels (size_of bw bh) (length badge)
-      → (pixels' : List ℕ) → pixels' ≡ badge_out (size_of w h) l pixels (size_of bw bh) k badge → (r : ℕ) → r ≡ checked_number answer → Badge r pixels'
+  pub badge_told : layout < 3 → from < 3 → (l k : PixelLayout) → l ≡ word_layout layout → k ≡ word_layout from → (answer : Result ⊤ Refusal)
+      → answer_number answer ≡ badge_number (size_of w h) l pixels (size_of bw bh) (length badge)
+      → (pixels' : List ℕ) → pixels' ≡ badge_out (size_of w h) l pixels (size_of bw bh) k badge → (r : ℕ) → r ≡ answer_number answer → Badge r pixels'
   unfolding number_of_badge pixels_after_badge badge_out
   badge_told a b l k is its answer m pixels' o r s =
       let p = passed (badge_number (size_of w h) (word_layout layout) pixels (size_of bw bh) (length badge)) refl (both_some layout from a b) in

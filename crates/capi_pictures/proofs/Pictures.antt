@@ -1,13 +1,14 @@
 -- What the calls that answer by a flag come to, as their contracts state it: t is the boundary's test, l the layout that the word names, and what the library
 -- answered is said of l. Assumes nothing.
+use Rattle.pixels.specs.declared.Refusal.{Refusal}
+use Rattle.std.specs.Prelude.{Result}
 use Prim.Native.Nat.{ℕ, ◌*◌}
 use mathlib.Core.Path.{◌≡◌}
 use mathlib.Core.Bool.{Bool, true, false}
 use mathlib.Core.List.{List}
 use lib.ListN.{length}
 use Rattle.pixels_layout.specs.declared.PixelLayout.{PixelLayout}
-use Rattle.pixels.specs.declared.Flagged.{Flagged}
-use Rattle.pixels.specs.Refusals.{buffer_if, flag_if, flagged_number, flagged_flag}
+use Rattle.pixels.specs.Refusals.{buffer_if, flag_if, answer_number, flagged_flag}
 use Rattle.pixels.specs.Sizes.{size_of, rect_of}
 use Rattle.pixels_alpha.specs.Alpha.{has_alpha, picture_number, with_alpha, alpha_number}
 use Rattle.pixels_crop.specs.Crop.{cropped, crop_number}
@@ -20,8 +21,8 @@ use Rattle.capi_pictures.specs.Pictures.{number_of_has_alpha, flag_after_has_alp
 use Rattle.capi_pictures.proofs.Answers.{flag_number, flag_told}
 
 -- what store_flag made of an answer: the number r, and the lent word
-abbrev pub Stored : Flagged → ℕ → List ℕ → List ℕ → Type 0
-Stored answer r flag' flag = (r ≡ flagged_number answer) × (flag' ≡ buffer_if (flagged_number answer) (stored_flag (flagged_flag answer) flag) flag)
+abbrev pub Stored : Result Bool Refusal → ℕ → List ℕ → List ℕ → Type 0
+Stored answer r flag' flag = (r ≡ answer_number answer) × (flag' ≡ buffer_if (answer_number answer) (stored_flag (flagged_flag answer) flag) flag)
 
 -- ---- jonquilsaw_has_alpha
 module _ (w h layout : ℕ) (pixels flag : List ℕ) {t : Bool} (e : t ≡ misused layout (length flag) 1) where
@@ -32,7 +33,7 @@ module _ (w h layout : ℕ) (pixels flag : List ℕ) {t : Bool} (e : t ≡ misus
   unfolding number_of_has_alpha flag_after_has_alpha
   has_alpha_misused f = (misuse_told _ e f, misuse_kept _ e f _ flag)
 
-  module _ (f : t ≡ false) (l : PixelLayout) (is : l ≡ word_layout layout) (answer : Flagged) (m : flagged_number answer ≡ picture_number (size_of w h) (length pixels)) where
+  module _ (f : t ≡ false) (l : PixelLayout) (is : l ≡ word_layout layout) (answer : Result Bool Refusal) (m : answer_number answer ≡ picture_number (size_of w h) (length pixels)) where
     pub has_alpha_told : flagged_flag answer ≡ flag_if (picture_number (size_of w h) (length pixels)) (has_alpha l pixels (w * h))
         → (r : ℕ) (flag' : List ℕ) → Stored answer r flag' flag → HasAlpha r flag'
     unfolding number_of_has_alpha flag_after_has_alpha
@@ -52,8 +53,8 @@ module _ (sw sh layout x y cw ch : ℕ) (pixels out flag : List ℕ) {t : Bool} 
   abbrev pub the_crop : List ℕ
   the_crop = cropped (size_of sw sh) (rect_of x y cw ch) pixels
 
-  module _ (f : t ≡ false) (l : PixelLayout) (is : l ≡ word_layout layout) (answer : Flagged)
-      (m : flagged_number answer ≡ crop_number (size_of sw sh) (rect_of x y cw ch) (length pixels) (length out)) where
+  module _ (f : t ≡ false) (l : PixelLayout) (is : l ≡ word_layout layout) (answer : Result Bool Refusal)
+      (m : answer_number answer ≡ crop_number (size_of sw sh) (rect_of x y cw ch) (length pixels) (length out)) where
     pub crop_told : flagged_flag answer ≡ flag_if (crop_number (size_of sw sh) (rect_of x y cw ch) (length pixels) (length out)) (has_alpha l the_crop (cw * ch))
         → (out' : List ℕ) → out' ≡ buffer_if (crop_number (size_of sw sh) (rect_of x y cw ch) (length pixels) (length out)) the_crop out
         → (r : ℕ) (flag' : List ℕ) → Stored answer r flag' flag → Crop r out' flag'
@@ -77,7 +78,7 @@ module _ (sw sh layout tw th : ℕ) (pixels out work flag : List ℕ) {t : Bool}
   abbrev pub theirs : ℕ
   theirs = resize_number (size_of sw sh) (size_of tw th) (length pixels) (length out) (length work)
 
-  module _ (f : t ≡ false) (l : PixelLayout) (is : l ≡ word_layout layout) (answer : Flagged) (m : flagged_number answer ≡ theirs) where
+  module _ (f : t ≡ false) (l : PixelLayout) (is : l ≡ word_layout layout) (answer : Result Bool Refusal) (m : answer_number answer ≡ theirs) where
     pub resize_told : flagged_flag answer ≡ flag_if theirs (resized_flag (size_of sw sh) l (size_of tw th) pixels)
         → (out' work' : List ℕ) → out' ≡ buffer_if theirs (resized (size_of sw sh) l (size_of tw th) pixels) out
         → work' ≡ buffer_if theirs (resized_work (size_of sw sh) l (size_of tw th) pixels work) work
@@ -98,8 +99,8 @@ module _ (w h layout : ℕ) (pixels plane flag : List ℕ) {t : Bool} (e : t ≡
   unfolding number_of_plane pixels_after_plane flag_after_plane
   plane_misused f = (misuse_told _ e f, (misuse_kept _ e f _ pixels, misuse_kept _ e f _ flag))
 
-  module _ (f : t ≡ false) (l : PixelLayout) (is : l ≡ word_layout layout) (answer : Flagged)
-      (m : flagged_number answer ≡ alpha_number (size_of w h) (length pixels) (length plane)) where
+  module _ (f : t ≡ false) (l : PixelLayout) (is : l ≡ word_layout layout) (answer : Result Bool Refusal)
+      (m : answer_number answer ≡ alpha_number (size_of w h) (length pixels) (length plane)) where
     pub plane_told : flagged_flag answer ≡ flag_if (alpha_number (size_of w h) (length pixels) (length plane)) (has_alpha l (with_alpha l pixels plane) (w * h))
         → (pixels' : List ℕ) → pixels' ≡ buffer_if (alpha_number (size_of w h) (length pixels) (length plane)) (with_alpha l pixels plane) pixels
         → (r : ℕ) (flag' : List ℕ) → Stored answer r flag' flag → Plane r pixels' flag'

@@ -4,21 +4,21 @@
 #![tactic(auto)]
 
 ghost use Rattle.std.specs.Prelude.{◌≡◌, length};
-ghost use Rattle.pixels.specs.Refusals.{buffer_if, flagged_number, flagged_flag};
+ghost use Rattle.pixels.specs.Refusals.{buffer_if, answer_number, flagged_flag};
 ghost use Rattle.capi_words.specs.Boundary.{stored_flag};
 ghost use Rattle.capi_pictures.specs.Pictures.{number_of_has_alpha, flag_after_has_alpha, number_of_crop, out_after_crop, flag_after_crop, number_of_resize, out_after_resize, work_after_resize, flag_after_resize, number_of_plane, pixels_after_plane, flag_after_plane, number_of_badge, pixels_after_badge, number_of_scaled, size_after_scaled};
 
 use capi_words::{BOUNDARY, LAYOUTS, flag_word, layout_of, misused, number_of, store};
-use pixels::{Dimensions, Flagged, Rect, Sized};
+use pixels::{Dimensions, Rect, Refusal};
 
 // The number of an answer by a flag, which is stored in one lent word.
-fn store_flag(answer: Flagged, flag: &mut [u32]) -> u32
-    ensures number { result ≡ flagged_number answer }
-    ensures flag { flag.new ≡ buffer_if (flagged_number answer) (stored_flag (flagged_flag answer) flag.old) flag.old }
+fn store_flag(answer: Result<bool, Refusal>, flag: &mut [u32]) -> u32
+    ensures number { result ≡ answer_number answer }
+    ensures flag { flag.new ≡ buffer_if (answer_number answer) (stored_flag (flagged_flag answer) flag.old) flag.old }
 {
     match answer {
-        Flagged::Refused(why) => why.number(),
-        Flagged::Flag(f) => {
+        Err(why) => why.number(),
+        Ok(f) => {
             store(&[flag_word(f)], flag);
             0
         }
@@ -203,8 +203,8 @@ pub extern "C" fn jonquilsaw_scaled(
     }
     let answer = Dimensions { width, height }.scaled(target_width, target_height);
     match answer {
-        Sized::Refused(why) => why.number(),
-        Sized::Size(d) => {
+        Err(why) => why.number(),
+        Ok(d) => {
             store(&[d.width, d.height], size);
             0
         }

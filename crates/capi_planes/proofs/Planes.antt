@@ -1,5 +1,6 @@
 -- What each way out of start_plane and start_planes gives, as the contracts state it. Where the call went through, the records that the library hands back are
 -- the ones that are stored. Assumes nothing.
+use Rattle.std.specs.Prelude.{Result, Ok, Err, IfOk}
 use Prim.Native.Nat.{ℕ, ◌≤◌, ◌<◌}
 use mathlib.Core.Path.{◌≡◌, refl, sym, ◌∙◌}
 use mathlib.Core.Bool.{true, false}
@@ -7,18 +8,15 @@ use mathlib.Core.List.{List}
 use lib.ListN.{length}
 use borrow.Author.Tests.{lt-ltb, le-ltb}
 use Rattle.pixels.specs.declared.Refusal.{Refusal}
-use Rattle.pixels.specs.Refusals.{number}
+use Rattle.pixels.specs.Refusals.{number, answer_number, value_or}
 use Rattle.pixels.specs.Sizes.{size_of}
 use Rattle.job_rules.specs.declared.Plan.{Plan}
 use Rattle.job_rules.specs.Rules.{start_number}
 use Rattle.job.specs.declared.Job.{Job}
 use Rattle.job.specs.Record.{fresh}
-use Rattle.job_start.specs.declared.Started.{Started}
-use Rattle.job_start.specs.declared.Started.TheVariants as started
-use Rattle.job_start.specs.Start.{started_number, started_job, start_work}
-use Rattle.job_planes.specs.declared.StartedPlanes.{StartedPlanes}
-use Rattle.job_planes.specs.declared.StartedPlanes.TheVariants as planes
-use Rattle.job_planes.specs.Planes.{planes_number, plane_work, started_planes_number, luma_job, cb_job, cr_job}
+use Rattle.job_start.specs.Start.{start_work}
+use Rattle.job_planes.specs.declared.Planes as started
+use Rattle.job_planes.specs.Planes.{planes_number, plane_work}
 use Rattle.capi_record.specs.Record.{record_length, stored_job}
 use Rattle.capi_words.specs.Boundary.{boundary}
 use Rattle.capi_words.proofs.Boundary.{kept_by, written_by, written_once, misuse_told, misuse_kept, passed, buffer_told}
@@ -44,7 +42,7 @@ module _ (sw sh lanes x y cw ch tw th : ℕ) (work words : List ℕ) where
   theirs = start_number plan (length work)
 
   -- the words suffice, and the library has answered
-  module _ (h : record_length ≤ length words) (answer : Started) (m : started_number answer ≡ theirs) (work' : List ℕ) (w : work' ≡ start_work plan work) where
+  module _ (h : record_length ≤ length words) (answer : Result Job Refusal) (m : answer_number answer ≡ theirs) (work' : List ℕ) (w : work' ≡ start_work plan work) where
     plane_number : theirs ≡ number_of_plane sw sh lanes x y cw ch tw th (length work) (length words)
     unfolding number_of_plane
     plane_number = passed theirs refl (le-ltb (length words) record_length h)
@@ -53,13 +51,13 @@ module _ (sw sh lanes x y cw ch tw th : ℕ) (work words : List ℕ) where
     unfolding work_after_plane start_work
     plane_work_lem = buffer_told _ theirs work' _ work plane_number (w ∙ written_once theirs _ work)
 
-    pub plane_refused : (why : Refusal) (r : ℕ) → answer ≡ started.Refused why → r ≡ number why → Plane r work' words
+    pub plane_refused : (why : Refusal) (r : ℕ) → answer ≡ Err why → r ≡ number why → Plane r work' words
     unfolding record_after_plane
     plane_refused why r a e =
         let z : number why ≡ number_of_plane sw sh lanes x y cw ch tw th (length work) (length words) = (rw a at m) ∙ plane_number in
         (e ∙ z, (plane_work_lem, kept_by why _ _ words (sym z)))
 
-    pub plane_fresh : (job : Job) (words' : List ℕ) → answer ≡ started.Fresh job → started_job (fresh plan) answer ≡ fresh plan → words' ≡ stored_job job words
+    pub plane_fresh : (job : Job) (words' : List ℕ) → answer ≡ Ok job → value_or (fresh plan) answer ≡ fresh plan → words' ≡ stored_job job words
         → Plane 0 work' words'
     unfolding record_after_plane
     plane_fresh job words' a j s =
@@ -102,7 +100,7 @@ module _ (sw sh tw th : ℕ) (lumaWork cbWork crWork luma cb cr : List ℕ) wher
   cr_short l b r = short (simp (le-ltb (length luma) record_length l, le-ltb (length cb) record_length b, lt-ltb (length cr) record_length r))
 
   -- the words suffice, and the library has answered
-  module _ (l : record_length ≤ length luma) (b : record_length ≤ length cb) (r : record_length ≤ length cr) (answer : StartedPlanes) (m : started_planes_number answer ≡ three)
+  module _ (l : record_length ≤ length luma) (b : record_length ≤ length cb) (r : record_length ≤ length cr) (answer : Result started.Planes Refusal) (m : answer_number answer ≡ three)
       (lumaWork' cbWork' crWork' : List ℕ) (wl : lumaWork' ≡ plane_work three (luma_plan sw sh tw th) lumaWork)
       (wb : cbWork' ≡ plane_work three (chroma_plan sw sh tw th) cbWork) (wr : crWork' ≡ plane_work three (chroma_plan sw sh tw th) crWork) where
     planes_number_lem : three ≡ told
@@ -115,7 +113,7 @@ module _ (sw sh tw th : ℕ) (lumaWork cbWork crWork luma cb cr : List ℕ) wher
     slice : (p : Plan) (work work' : List ℕ) → work' ≡ plane_work three p work → work' ≡ plane_work told p work
     slice p work work' w = buffer_told told three work' _ work planes_number_lem w
 
-    pub planes_refused : (why : Refusal) (n : ℕ) → answer ≡ planes.Refused why → n ≡ number why → Planes n lumaWork' cbWork' crWork' luma cb cr
+    pub planes_refused : (why : Refusal) (n : ℕ) → answer ≡ Err why → n ≡ number why → Planes n lumaWork' cbWork' crWork' luma cb cr
     unfolding luma_work_after_planes cb_work_after_planes cr_work_after_planes luma_after_planes cb_after_planes cr_after_planes
     planes_refused why n a e =
         let z : number why ≡ told = (rw a at m) ∙ planes_number_lem in
@@ -125,18 +123,17 @@ module _ (sw sh tw th : ℕ) (lumaWork cbWork crWork luma cb cr : List ℕ) wher
         let k = sym z in
         (e ∙ z, (ul, (ub, (ur, (kept_by why told _ luma k, (kept_by why told _ cb k, kept_by why told _ cr k))))))
 
-    pub planes_fresh : (first second third : Job) (luma' cb' cr' : List ℕ) → answer ≡ planes.Fresh first second third
-        → luma_job (fresh (luma_plan sw sh tw th)) answer ≡ fresh (luma_plan sw sh tw th)
-        → cb_job (fresh (chroma_plan sw sh tw th)) answer ≡ fresh (chroma_plan sw sh tw th)
-        → cr_job (fresh (chroma_plan sw sh tw th)) answer ≡ fresh (chroma_plan sw sh tw th)
-        → luma' ≡ stored_job first luma → cb' ≡ stored_job second cb → cr' ≡ stored_job third cr
+    pub planes_fresh : (all : started.Planes) (luma' cb' cr' : List ℕ) → answer ≡ Ok all
+        → IfOk answer (λ p. (p.luma ≡ fresh (luma_plan sw sh tw th)) × (p.cb ≡ fresh (chroma_plan sw sh tw th)) × (p.cr ≡ fresh (chroma_plan sw sh tw th)))
+        → luma' ≡ stored_job all.luma luma → cb' ≡ stored_job all.cb cb → cr' ≡ stored_job all.cr cr
         → Planes 0 lumaWork' cbWork' crWork' luma' cb' cr'
     unfolding luma_work_after_planes cb_work_after_planes cr_work_after_planes luma_after_planes cb_after_planes cr_after_planes
-    planes_fresh first second third luma' cb' cr' a jl jb jr sl sb sr =
+    planes_fresh all luma' cb' cr' a jobs sl sb sr =
         let z : 0 ≡ told = (rw a at m) ∙ planes_number_lem in
-        let ql : first ≡ fresh (luma_plan sw sh tw th) = rw a at jl in
-        let qb : second ≡ fresh (chroma_plan sw sh tw th) = rw a at jb in
-        let qr : third ≡ fresh (chroma_plan sw sh tw th) = rw a at jr in
+        let fresh-all : (all.luma ≡ fresh (luma_plan sw sh tw th)) × (all.cb ≡ fresh (chroma_plan sw sh tw th)) × (all.cr ≡ fresh (chroma_plan sw sh tw th)) = rw a at jobs in
+        let ql = fresh-all.0 in
+        let qb = fresh-all.1 in
+        let qr = fresh-all.2 in
         let ul = slice (luma_plan sw sh tw th) lumaWork _ wl in
         let ub = slice (chroma_plan sw sh tw th) cbWork _ wb in
         let ur = slice (chroma_plan sw sh tw th) crWork _ wr in

@@ -6,8 +6,8 @@ ghost use Rattle.capi_planes.specs.Planes.{number_of_plane, work_after_plane, re
 
 use capi_record::{RECORD_WORDS, store_job};
 use capi_words::BOUNDARY;
-use job_planes::{StartedPlanes, start_planes};
-use job_start::{Started, start_plane};
+use job_planes::start_planes;
+use job_start::start_plane;
 use pixels::{Dimensions, Rect};
 
 // A fresh job of a plane of so many lanes: its record in lent words, and the work rows cleared.
@@ -49,8 +49,8 @@ pub extern "C" fn jonquilsaw_start_plane(
     };
     let answer = start_plane(source, lanes, crop, target, work);
     match answer {
-        Started::Refused { why } => why.number(),
-        Started::Fresh { job } => {
+        Err(why) => why.number(),
+        Ok(job) => {
             store_job(job, record);
             0
         }
@@ -99,15 +99,11 @@ pub extern "C" fn jonquilsaw_start_planes(
     };
     let answer = start_planes(source, target, luma_work, cb_work, cr_work);
     match answer {
-        StartedPlanes::Refused { why } => why.number(),
-        StartedPlanes::Fresh {
-            luma: first,
-            cb: second,
-            cr: third,
-        } => {
-            store_job(first, luma);
-            store_job(second, cb);
-            store_job(third, cr);
+        Err(why) => why.number(),
+        Ok(planes) => {
+            store_job(planes.luma, luma);
+            store_job(planes.cb, cb);
+            store_job(planes.cr, cr);
             0
         }
     }

@@ -1,5 +1,6 @@
 -- A record written into words and read back is that record, and the words of a legal record are the ones that it is written as: neither way loses anything.
 -- Each word stands at its own place, and layouts, flags and kinds are told apart by their words. Assumes nothing.
+use Rattle.std.specs.Prelude.{Option, Some, None}
 use Prim.Native.Nat.{ℕ, zero, suc, ◌≤◌, ◌<◌}
 use mathlib.Core.Path.{◌≡◌, refl, sym, ap, ◌∙◌}
 use mathlib.Core.Bool.{Bool, true, false, cond, ◌&&◌, true≢false}
@@ -14,8 +15,6 @@ use Rattle.pixels_layout.specs.declared.PixelLayout.TheVariants.{Rgba8, Argb8, B
 use Rattle.job_rules.specs.declared.Kind.{Kind}
 use Rattle.job_rules.specs.declared.Kind.TheVariants.{Picture, Plane}
 use Rattle.job.specs.declared.Job.{Job}
-use Rattle.capi_record.specs.declared.Told.{Told}
-use Rattle.capi_record.specs.declared.Told.TheVariants as told
 use Rattle.capi_words.specs.Words.{is_layout, word_layout, layout_word, is_flag, word_flag, flag_word, stored}
 use Rattle.capi_record.specs.Record.{word_kind, is_kind, kind_word, record_length, record_words, words_job, words_legal, told_by, stored_job}
 use Rattle.capi_words.proofs.Words.{stored_enough}
@@ -160,34 +159,34 @@ pub job_stored : (j : Job) (l f k : ℕ) (next words : List ℕ) → l ≡ layou
 unfolding record_words
 job_stored j l f k next words a b d h = rw (a, b, d) at h
 
-pub told_nothing : (words : List ℕ) {t : Bool} → t ≡ words_legal words → t ≡ false → told.Nothing ≡ told_by words
+pub told_nothing : (words : List ℕ) {t : Bool} → t ≡ words_legal words → t ≡ false → None ≡ told_by words
 told_nothing words e f = simp (sym e ∙ f)
 
-pub told_job : (words : List ℕ) (j : Job) {t : Bool} → t ≡ words_legal words → t ≡ true → j ≡ words_job words → told.Job j ≡ told_by words
+pub told_job : (words : List ℕ) (j : Job) {t : Bool} → t ≡ words_legal words → t ≡ true → j ≡ words_job words → Some j ≡ told_by words
 told_job words j e f h = rw h (simp (sym e ∙ f))
 
 pub enough_words : (words : List ℕ) {t : Bool} → t ≡ words_legal words → t ≡ true → record_length ≤ length words
 enough_words words e f = (legal_of words (sym e ∙ f)).enough
 
 -- ---- what is known of words by what they tell
-abbrev is_job : Told → Bool
-is_job (told.Job j) = true
-is_job told.Nothing = false
+abbrev is_job : Option Job → Bool
+is_job (Some j) = true
+is_job None = false
 
-abbrev job_or : Job → Told → Job
-job_or other (told.Job j) = j
-job_or other told.Nothing = other
+abbrev job_or : Job → Option Job → Job
+job_or other (Some j) = j
+job_or other None = other
 
-pub job_told : (b : Bool) (i j : Job) → cond b (told.Job i) told.Nothing ≡ told.Job j → (b ≡ true) × (i ≡ j)
+pub job_told : (b : Bool) (i j : Job) → cond b (Some i) None ≡ Some j → (b ≡ true) × (i ≡ j)
 job_told true i j e = (refl, ap (job_or i) e)
 job_told false i j e = absurd (true≢false (sym (ap is_job e)))
 
-pub none_told : (b : Bool) (i : Job) → cond b (told.Job i) told.Nothing ≡ told.Nothing → b ≡ false
+pub none_told : (b : Bool) (i : Job) → cond b (Some i) None ≡ None → b ≡ false
 none_told true i e = absurd (true≢false (ap is_job e))
 none_told false i e = refl
 
-pub job_legal : (words : List ℕ) (j : Job) → told_by words ≡ told.Job j → (words_legal words ≡ true) × (words_job words ≡ j)
+pub job_legal : (words : List ℕ) (j : Job) → told_by words ≡ Some j → (words_legal words ≡ true) × (words_job words ≡ j)
 job_legal words j e = job_told (words_legal words) (words_job words) j e
 
-pub none_legal : (words : List ℕ) → told_by words ≡ told.Nothing → words_legal words ≡ false
+pub none_legal : (words : List ℕ) → told_by words ≡ None → words_legal words ≡ false
 none_legal words e = none_told (words_legal words) (words_job words) e

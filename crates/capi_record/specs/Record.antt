@@ -1,6 +1,6 @@
 -- The record as words (SCOPE, "The job": source size, layout, crop, target, rows accepted, rows taken, the flag so far; then the kind and the lanes). Words
 -- after the last are the caller's. Assumes nothing.
-use Rattle.std.specs.Prelude.{ℕ, Bool, cond, ◌&&◌, List, [], ◌∷◌, leb, ltb, length, get_or}
+use Rattle.std.specs.Prelude.{Option, Some, None, ℕ, Bool, cond, ◌&&◌, List, [], ◌∷◌, leb, ltb, length, get_or}
 use Rattle.pixels.specs.declared.Refusal.TheVariants.{InvalidRecord}
 use Rattle.pixels.specs.Refusals.{number}
 use Rattle.pixels.specs.Sizes.{size_of, rect_of}
@@ -9,8 +9,6 @@ use Rattle.job_rules.specs.declared.Kind.TheVariants.{Picture, Plane}
 use Rattle.job_rules.specs.declared.Plan.{Plan}
 use Rattle.job_rules.specs.Rules.{plan_of}
 use Rattle.job.specs.declared.Job.{Job}
-use Rattle.capi_record.specs.declared.Told.{Told}
-use Rattle.capi_record.specs.declared.Told.TheVariants as told
 use Rattle.capi_words.specs.Words.{is_layout, word_layout, layout_word, is_flag, word_flag, flag_word, stored}
 
 -- ---- kinds
@@ -80,8 +78,8 @@ unfoldable pub words_legal : List ℕ → Bool
 words_legal words = leb record_length (length words) && is_layout (get_or words 2 0) && is_kind (get_or words 12 0) && is_flag (get_or words 11 0)
 
 -- what words tell: a record, or nothing where they make none
-abbrev pub told_by : List ℕ → Told
-told_by words = cond (words_legal words) (told.Job (words_job words)) told.Nothing
+abbrev pub told_by : List ℕ → Option Job
+told_by words = cond (words_legal words) (Some (words_job words)) None
 
 -- lent words after a record was stored
 abbrev pub stored_job : Job → List ℕ → List ℕ

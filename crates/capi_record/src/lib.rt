@@ -17,25 +17,7 @@ pub const RECORD_WORDS: usize = 14;
 // Kinds are numbered from 0 in the order of Kind.
 const KINDS: u32 = 2;
 
-// What the words of a record tell: the record, or nothing where they make none.
-#[derive(Clone, Copy)]
-pub enum Told {
-    Job { job: Job },
-    Nothing,
-}
-
-// The word of a layout.
-fn layout_word(layout: PixelLayout) -> u32
-    ensures { result ≡ layout_word layout }
-{
-    match layout {
-        PixelLayout::Rgba8 => 0,
-        PixelLayout::Argb8 => 1,
-        PixelLayout::Bgra8 => 2,
-    }
-}
-
-// The kind that a word names, a picture where it names none; and the word of a kind.
+// The kind that a word names, a picture where it names none. Kept, as layout_of: `word_kind` gives every word one.
 fn kind_of(word: u32) -> Kind
     ensures { result ≡ word_kind word }
 {
@@ -45,13 +27,17 @@ fn kind_of(word: u32) -> Kind
     }
 }
 
+// The words of a layout and of a kind.
+fn layout_word(layout: PixelLayout) -> u32
+    ensures { result ≡ layout_word layout }
+{
+    layout as u32
+}
+
 fn kind_word(kind: Kind) -> u32
     ensures { result ≡ kind_word kind }
 {
-    match kind {
-        Kind::Picture => 0,
-        Kind::Plane => 1,
-    }
+    kind as u32
 }
 
 // Whether the words make a record: enough of them, the layout's, the flag's and the kind's among their values.
@@ -91,15 +77,15 @@ fn job_of(words: &[u32]) -> Job
     let layout = layout_of(words[2]);
     let kind = kind_of(words[12]);
     let plan = Plan {
-        source: source,
-        layout: layout,
-        crop: crop,
-        target: target,
-        kind: kind,
+        source,
+        layout,
+        crop,
+        target,
+        kind,
         lanes: words[13],
     };
     Job {
-        plan: plan,
+        plan,
         accepted: words[9],
         taken: words[10],
         flag: words[11] == 1,
@@ -108,13 +94,13 @@ fn job_of(words: &[u32]) -> Job
 
 // The record that words tell; whether it meets the rules is for the job to say.
 // Rules out: a record of thirteen words; a flag word or a kind word of 2 taken; two words exchanged.
-pub fn read_job(words: &[u32]) -> Told
+pub fn read_job(words: &[u32]) -> Option<Job>
     ensures { result ≡ told_by words.now }
 {
     if !legal(words) {
-        return Told::Nothing;
+        return None;
     }
-    Told::Job { job: job_of(words) }
+    Some(job_of(words))
 }
 
 // Stores the words of a record; fewer words than it takes stay as they were.
@@ -123,12 +109,10 @@ pub fn store_job(job: Job, words: &mut [u32])
     ensures { words.new ≡ stored_job job words.old }
 {
     let plan = job.plan;
-    let layout = plan.layout;
-    let kind = plan.kind;
     let answer = [
         plan.source.width,
         plan.source.height,
-        layout_word(layout),
+        layout_word(plan.layout),
         plan.crop.x,
         plan.crop.y,
         plan.crop.width,
@@ -138,7 +122,7 @@ pub fn store_job(job: Job, words: &mut [u32])
         job.accepted,
         job.taken,
         flag_word(job.flag),
-        kind_word(kind),
+        kind_word(plan.kind),
         plan.lanes,
     ];
     store(&answer, words);

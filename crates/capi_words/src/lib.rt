@@ -3,11 +3,11 @@
 #![tactic(auto)]
 
 ghost use Rattle.std.specs.Prelude.{◌≡◌};
-ghost use Rattle.pixels.specs.Refusals.{checked_number};
+ghost use Rattle.pixels.specs.Refusals.{answer_number};
 ghost use Rattle.capi_words.specs.Words.{word_layout, flag_word, stored};
 ghost use Rattle.capi_words.specs.Boundary.{misused};
 
-use pixels::Checked;
+use pixels::Refusal;
 use pixels_layout::PixelLayout;
 
 // Layouts are numbered from 0 in the order of PixelLayout.
@@ -18,7 +18,7 @@ pub const BOUNDARY: u32 = 100;
 
 // ---- words
 
-// The layout that a word names, the first where it names none.
+// The layout that a word names, the first where it names none. Kept: no TryFrom, which would refuse what `word_layout` gives a layout to.
 // Rules out: two layouts exchanged; a word above the last taken for the last.
 pub fn layout_of(word: u32) -> PixelLayout
     ensures { result ≡ word_layout word }
@@ -34,19 +34,16 @@ pub fn layout_of(word: u32) -> PixelLayout
 pub fn flag_word(flag: bool) -> u32
     ensures { result ≡ flag_word flag }
 {
-    if flag {
-        return 1;
-    }
-    0
+    u32::from(flag)
 }
 
 // The number of an answer that has nothing else to tell. Rules out: 0 told although the call was refused; 1 told although it went through.
-pub fn number_of(answer: Checked) -> u32
-    ensures { result ≡ checked_number answer }
+pub fn number_of(answer: Result<(), Refusal>) -> u32
+    ensures { result ≡ answer_number answer }
 {
     match answer {
-        Checked::Refused(why) => why.number(),
-        Checked::Fit => 0,
+        Err(why) => why.number(),
+        Ok(()) => 0,
     }
 }
 
@@ -58,11 +55,7 @@ pub fn store(answer: &[u32], words: &mut [u32])
     if words.len() < answer.len() {
         return;
     }
-    let mut i = 0;
-    while i < answer.len() {
-        words[i] = answer[i];
-        i += 1;
-    }
+    words[..answer.len()].copy_from_slice(answer);
 }
 
 // ---- the boundary

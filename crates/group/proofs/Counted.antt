@@ -60,28 +60,26 @@ module _ (g : Group) (n : ℕ) where
       ap ready_after e ∙ least_hit ready_after 1 (most_rows g n) (omega arith)
 
   -- the loop that counts them, most being as many as there may be
-  pub record Counting (most c : ℕ) : Type 0 where
+  pub record Counting (c : ℕ) : Type 0 where
     pub low : 0 < c
-    pub upto : c ≤ most
     pub quiet : (i : ℕ) → 1 ≤ i → i < c → ready_after i ≡ false
 
   module _ (most : ℕ) (is : most ≡ most_rows g n) where
-    pub counting_first : 0 < most → Counting most 1
-    counting_first l = record { low = omega arith; upto = omega arith; quiet = λ i a b. absurd (omega arith) }
+    pub counting_first : 0 < most → Counting 1
+    counting_first l = record { low = omega arith; quiet = λ i a b. absurd (omega arith) }
 
-    pub counting_more : (c : ℕ) → Counting most c → c < most → ready_after c ≡ false → Counting most (c + 1)
+    pub counting_more : (c : ℕ) → Counting c → c < most → ready_after c ≡ false → Counting (c + 1)
     counting_more c v l e = record {
       low = omega arith;
-      upto = omega arith;
       quiet = λ i a b. ⊎_elim (λ q. let s : i ≡ c = omega arith in ap ready_after s ∙ e) (λ q. v.quiet i a q) (le_or_lt c i);
     }
 
-    pub counting_ready : (c : ℕ) → Counting most c → c < most → ready_after c ≡ true → c ≡ group_count g n
+    pub counting_ready : (c : ℕ) → Counting c → c < most → ready_after c ≡ true → c ≡ group_count g n
     counting_ready c v l e =
         let q : least ready_after 1 (most_rows g n) ≡ c = least_is ready_after 1 (most_rows g n) c v.quiet v.low (omega arith) e in
         sym (count_open ∙ omega (arith, q))
 
-    pub counting_full : Counting most most → most ≡ group_count g n
+    pub counting_full : Counting most → most ≡ group_count g n
     counting_full v =
         let q : most ≤ least ready_after 1 (most_rows g n) = least_from ready_after 1 (most_rows g n) most v.quiet (omega arith) in
         sym (count_open ∙ omega (arith, q))

@@ -24,7 +24,7 @@ use Rattle.group_parts.proofs.Cutting.{offset_zero, offset_suc, part_long, each_
 use Rattle.group_rules.specs.declared.Group.{Group}
 use Rattle.group_rules.specs.Group.{group_limit, job_at, plan_at, each_job, needs, total}
 use Rattle.group_rules.specs.Tests.{group_offer_number}
-use Rattle.group_rules.proofs.Jobs.{jobs_none, jobs_next}
+use Rattle.group_rules.proofs.Jobs.{jobs_none, jobs_next, job_beyond}
 use Rattle.group_rules.proofs.Lawful.{LawfulGroup, lawful_group, lanes_here}
 use Rattle.group_rules.proofs.Going.{GroupOfferGoes, group_offer_goes}
 use Rattle.group.specs.Inner.{RowForAll}
@@ -34,14 +34,12 @@ use Rattle.group.proofs.Going.{legal_offer, part_small, part_fits, in_lent, in_s
 
 -- ---- a source row for every job
 pub record Feeding (g : Group) (s : ℕ) (row work₀ work : List ℕ) (at i : ℕ) : Type 0 where
-  pub upto : i ≤ g.count
   pub place : at ≡ total g.jobs i
   pub long : length work ≡ length work₀
   pub work_is : work ≡ each_part (needs g.jobs) (λ k. row_accepted (plan_at g.jobs k) row s) i work₀
 
 pub feeding_first : (g : Group) (s : ℕ) (row w : List ℕ) → Feeding g s row w w 0 0
 feeding_first g s row w = record {
-  upto = omega arith;
   place = sym (offset_zero _);
   long = refl;
   work_is = sym (each_none _ _ w);
@@ -82,7 +80,6 @@ module _ {g : Group} {s : ℕ} {row work₀ work : List ℕ} {at i : ℕ} (a : R
         } in
         let f : ys ≡ row_accepted p row s part = e ∙ row_in_lem p row s part asks in
         record {
-          upto = omega arith;
           place = rw (add-one i) (rw (offset_suc (needs g.jobs) i) (omega (arith, v.place, q)));
           long = same_len_mid at (at + d - at) work ys (ap length f ∙ accepted_length p row s part (omega (arith, own))) ∙ v.long;
           work_is = rw (add-one i) (each_more (needs g.jobs) (λ k. row_accepted (plan_at g.jobs k) row s) i work₀ at (at + d - at) work ys v.place (z ∙ q) v.work_is f);
@@ -94,19 +91,17 @@ module _ {g : Group} {s : ℕ} {row work₀ work : List ℕ} {at i : ℕ} (a : R
     feeding_more ys e = more (2 * half) (omega (arith, h)) fits ys e
 
 -- ---- one row after another: the first r rows are fed to all
-pub record Rows (g : Group) (c : ℕ) (rows work₀ work : List ℕ) (r : ℕ) : Type 0 where
-  pub upto : r ≤ c
+pub record Rows (g : Group) (rows work₀ work : List ℕ) (r : ℕ) : Type 0 where
   pub long : length work ≡ length work₀
   pub work_is : work ≡ each_part (needs g.jobs) (λ i. fed (plan_at g.jobs i) rows (job_at g.jobs 0).accepted r) g.count work₀
 
-pub rows_first : (g : Group) (c : ℕ) (rows w : List ℕ) → Rows g c rows w w 0
-rows_first g c rows w = record {
-  upto = omega arith;
+pub rows_first : (g : Group) (rows w : List ℕ) → Rows g rows w w 0
+rows_first g rows w = record {
   long = refl;
   work_is = sym (each_kept (needs g.jobs) (λ i. fed (plan_at g.jobs i) rows (job_at g.jobs 0).accepted 0) (λ i x. fed_none (plan_at g.jobs i) rows _ x) g.count w);
 }
 
-module _ {g : Group} {c : ℕ} {rows work₀ work : List ℕ} {r : ℕ} (goes : group_offer_number g (length rows) (length work₀) ≡ 0) (is : c ≡ group_count g (length rows)) (v : Rows g c rows work₀ work r) (l : r < c)
+module _ {g : Group} {c : ℕ} {rows work₀ work : List ℕ} {r : ℕ} (goes : group_offer_number g (length rows) (length work₀) ≡ 0) (is : c ≡ group_count g (length rows)) (v : Rows g rows work₀ work r) (l : r < c)
     (stride : ℕ) (h : stride ≡ row_bytes (lanes_of (plan_at g.jobs 0)) (plan_at g.jobs 0).source.width) where
   abbrev o : GroupOfferGoes g (length rows) (length work₀)
   o = group_offer_goes g (length rows) (length work₀) goes
@@ -161,9 +156,8 @@ module _ {g : Group} {c : ℕ} {rows work₀ work : List ℕ} {r : ℕ} (goes : 
   after_keeps : (i : ℕ) (x : List ℕ) → length x ≡ needs js i → length (after i x) ≡ needs js i
   after_keeps i x e = fed_length (plan_at js i) rows k (suc r) x (omega arith) ∙ e
 
-  pub rows_more : (next : List ℕ) → length next ≡ length work → next ≡ each_part (needs js) this g.count work → Rows g c rows work₀ next (r + 1)
+  pub rows_more : (next : List ℕ) → length next ≡ length work → next ≡ each_part (needs js) this g.count work → Rows g rows work₀ next (r + 1)
   rows_more next len e = record {
-    upto = omega arith;
     long = len ∙ v.long;
     work_is =
         rw (add-one r)
@@ -177,23 +171,24 @@ module _ {g : Group} {c : ℕ} {rows work₀ work : List ℕ} {r : ℕ} (goes : 
 
 -- ---- all records with c rows more
 pub record Advancing (g : Group) (c : ℕ) (next : Group) (i : ℕ) : Type 0 where
-  pub upto : i ≤ g.count
   pub counted : next.count ≡ g.count
   pub jobs : next.jobs ≡ each_job (λ j. more_accepted j c) i g.jobs
 
 pub advancing_first : (g : Group) (c : ℕ) → Advancing g c g 0
-advancing_first g c = record { upto = omega arith; counted = refl; jobs = sym (jobs_none _ g.jobs) }
+advancing_first g c = record { counted = refl; jobs = sym (jobs_none _ g.jobs) }
 
-pub advancing_more : (g : Group) (c : ℕ) (next : Group) (i : ℕ) → Advancing g c next i → i < g.count
-    → Advancing g c (record { count = next.count; jobs = set next.jobs i (more_accepted (job_at g.jobs i) c) }) (i + 1)
-advancing_more g c next i v l = record {
-  upto = omega arith;
-  counted = v.counted;
-  jobs = rw (add-one i) (jobs_next (λ j. more_accepted j c) g.jobs i next.jobs _ v.jobs refl);
-}
+module _ {g : Group} {c : ℕ} {next : Group} {i : ℕ} (v : Advancing g c next i) where
+  -- the next record is as it was
+  pub advancing_here : job_at next.jobs i ≡ job_at g.jobs i
+  advancing_here = ap (λ (js : List Job). job_at js i) v.jobs ∙ job_beyond (λ j. more_accepted j c) i i g.jobs (omega arith)
 
-pub advancing_done : (g : Group) (c : ℕ) (next : Group) (i : ℕ) → Advancing g c next i → i ≡ g.count
-    → next ≡ with_jobs g (each_job (λ j. more_accepted j c) g.count g.jobs)
-advancing_done g c next i v e =
-    ap₂ (λ (x : ℕ) (y : List Job). record { count = x; jobs = y }) v.counted
-    (v.jobs ∙ ap (λ (x : ℕ). each_job (λ j. more_accepted j c) x g.jobs) e)
+  pub advancing_more : Advancing g c (record { count = next.count; jobs = set next.jobs i (more_accepted (job_at next.jobs i) c) }) (i + 1)
+  advancing_more = record {
+    counted = v.counted;
+    jobs = rw (add-one i) (jobs_next (λ j. more_accepted j c) g.jobs i next.jobs _ v.jobs (ap (λ (j : Job). more_accepted j c) advancing_here));
+  }
+
+  pub advancing_done : i ≡ g.count → next ≡ with_jobs g (each_job (λ j. more_accepted j c) g.count g.jobs)
+  advancing_done e =
+      ap₂ (λ (x : ℕ) (y : List Job). record { count = x; jobs = y }) v.counted
+      (v.jobs ∙ ap (λ (x : ℕ). each_job (λ j. more_accepted j c) x g.jobs) e)

@@ -1,9 +1,8 @@
 -- What a group's offer and take answer and leave in every buffer (SCOPE, "Groups"), for every group and any contents of the work values. A group's accepting offer
 -- is each job's own offer of exactly the rows accepted, on its own part of the work values; its take is the named job's own. Assumes nothing.
-use Rattle.std.specs.Prelude.{ℕ, ◌+◌, ◌-◌, ◌*◌, min, cond, ◌&&◌, not, List, eqb, length, take, set}
+use Rattle.std.specs.Prelude.{ℕ, ◌+◌, ◌*◌, min, cond, ◌&&◌, not, List, eqb, length, take, set}
 use Rattle.pixels.specs.Refusals.{buffer_if}
 use Rattle.pixels.specs.Sizes.{row_bytes}
-use Rattle.job_rules.specs.declared.Plan.{Plan}
 use Rattle.job_rules.specs.Rules.{lanes_of}
 use Rattle.job.specs.declared.Job.{Job}
 use Rattle.job.specs.Record.{ready_of}

@@ -2,7 +2,7 @@
 #![tactic(auto)]
 
 ghost use Rattle.std.specs.Prelude.{◌≡◌, true, ◌+◌, ◌≤◌, length};
-ghost use Rattle.pixels.specs.Refusals.{checked_number};
+ghost use Rattle.pixels.specs.Refusals.{answer_number, value_or};
 ghost use Rattle.job.specs.Calls.{row_accepted, fed, more_accepted};
 ghost use Rattle.group_parts.specs.Parts.{each_part};
 ghost use Rattle.group_rules.specs.Group.{job_at, plan_at, each_job, needs, group_lawful};
@@ -12,22 +12,14 @@ ghost use Rattle.group.specs.Calls.{most_rows, group_count, with_jobs, group_off
 
 use group_rules::Group;
 use group_tests::{check_group_offer, some_ready};
-use job::Job;
+use job::Answer;
 use job_rules::{row_bytes, row_form};
-use pixels::Checked;
 use rows_in::put_source_row;
-
-// Whether rows were accepted, or why none; how many; and the next record.
-#[derive(Clone, Copy)]
-pub struct OfferedGroup {
-    pub answer: Checked,
-    pub rows: u32,
-    pub group: Group,
-}
 
 // ---- how many rows come in
 
 // The rows lent or those that the source has left, whichever are fewer; n is the number of bytes lent.
+// Kept beside job's own: that one asks for the record rules, and no function that another crate calls has a `requires`.
 fn most_rows(g: Group, n: usize) -> u32
     requires { group_lawful g ≡ true }
     ensures { result ≡ most_rows g n }
@@ -35,10 +27,7 @@ fn most_rows(g: Group, n: usize) -> u32
     let j = g.jobs[0];
     let lent = n / row_bytes(j.plan, j.plan.source.width);
     let left = j.plan.source.height - j.accepted;
-    if lent < left as usize {
-        return lent as u32;
-    }
-    left
+    lent.min(left as usize) as u32
 }
 
 // The rows of an offer that passed its tests: one more as long as no job has one ready. n is the number of bytes lent, w that of work values.
@@ -48,14 +37,12 @@ fn count_rows(g: Group, n: usize, w: usize) -> u32
 {
     let most = most_rows(g, n);
     let j = g.jobs[0];
-    let mut c: u32 = 1;
-    while c < most {
+    for c in 1..most {
         if some_ready(g, j.accepted + c) {
             return c;
         }
-        c += 1;
     }
-    c
+    most
 }
 
 // ---- rows come in
@@ -65,18 +52,12 @@ fn feed_row(g: Group, s: u32, row: &[u8], work: &mut [u32])
     requires { RowForAll g row.now work.old }
     ensures { work.new ≡ each_part (needs g.jobs) (λ i. row_accepted (plan_at g.jobs i) row.now s) g.count work.old }
 {
-    let n = g.count as usize;
-    let mut at: usize = 0;
-    let mut i: usize = 0;
-    while i < n {
-        let j = g.jobs[i];
-        let p = j.plan;
-        let form = row_form(p);
-        let half = row_bytes(p, p.target.width);
-        let end = at + 2 * half;
-        put_source_row(form, p.crop, p.target, s, row, &mut work[at..end]);
+    let mut at = 0;
+    for i in 0..g.count as usize {
+        let p = g.jobs[i].plan;
+        let end = at + 2 * row_bytes(p, p.target.width);
+        let _ = put_source_row(row_form(p), p.crop, p.target, s, row, &mut work[at..end]);
         at = end;
-        i += 1;
     }
 }
 
@@ -87,64 +68,46 @@ fn feed_rows(g: Group, c: u32, rows: &[u8], work: &mut [u32])
 {
     let j = g.jobs[0];
     let stride = row_bytes(j.plan, j.plan.source.width);
-    let mut r: u32 = 0;
-    while r < c {
+    for r in 0..c {
         let at = stride * r as usize;
         feed_row(g, j.accepted + r, &rows[at..at + stride], work);
-        r += 1;
     }
 }
 
 // All records with c rows more.
-fn all_more(g: Group, c: u32) -> Group
+fn all_more(mut g: Group, c: u32) -> Group
     requires { (group_lawful g ≡ true) × ((job_at g.jobs 0).accepted + c ≤ 16384) }
     ensures { result ≡ with_jobs g (each_job (λ j. more_accepted j c) g.count g.jobs) }
 {
-    let n = g.count as usize;
-    let mut next = g;
-    let mut i: usize = 0;
-    while i < n {
-        let j = g.jobs[i];
-        let p = j.plan;
-        let more = Job {
-            plan: p,
-            accepted: j.accepted + c,
-            taken: j.taken,
-            flag: j.flag,
-        };
-        next.jobs[i] = more;
-        i += 1;
+    for i in 0..g.count as usize {
+        g.jobs[i].accepted += c;
     }
-    next
+    g
 }
 
 // ---- the call
 
 // Offers one or more whole source rows to all jobs; returns how many were accepted.
 // Rules out: rows counted by the first job alone; an offer that goes on past the first row that makes a row ready; parts cut one value too late.
-pub fn offer_group(g: Group, rows: &[u8], work: &mut [u32]) -> OfferedGroup
-    ensures number { checked_number result.answer ≡ group_offer_number g (length rows.now) (length work.old) }
-    ensures rows { result.rows ≡ group_offer_rows g (length rows.now) (length work.old) }
-    ensures group { result.group ≡ group_offered g (length rows.now) (length work.old) }
+pub fn offer_group(g: Group, rows: &[u8], work: &mut [u32]) -> Answer<u32, Group>
+    ensures number { answer_number result.said ≡ group_offer_number g (length rows.now) (length work.old) }
+    ensures rows { value_or 0 result.said ≡ group_offer_rows g (length rows.now) (length work.old) }
+    ensures group { result.next ≡ group_offered g (length rows.now) (length work.old) }
     ensures work { work.new ≡ group_offer_work g rows.now work.old }
 {
-    let checked = check_group_offer(g, rows.len(), work.len());
-    match checked {
-        Checked::Refused(why) => {
-            return OfferedGroup {
-                answer: Checked::Refused(why),
-                rows: 0,
-                group: g,
-            };
+    let said = check_group_offer(g, rows.len(), work.len());
+    match said {
+        Err(why) => Answer {
+            said: Err(why),
+            next: g,
+        },
+        Ok(()) => {
+            let c = count_rows(g, rows.len(), work.len());
+            feed_rows(g, c, rows, work);
+            Answer {
+                said: Ok(c),
+                next: all_more(g, c),
+            }
         }
-        Checked::Fit => {}
-    }
-    let c = count_rows(g, rows.len(), work.len());
-    feed_rows(g, c, rows, work);
-    let next = all_more(g, c);
-    OfferedGroup {
-        answer: Checked::Fit,
-        rows: c,
-        group: next,
     }
 }

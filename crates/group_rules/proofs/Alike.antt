@@ -1,11 +1,14 @@
 -- Jobs over one source: the test as the code makes it, and what it says. Assumes nothing.
 use Prim.Native.Nat.{ℕ, ◌<◌}
-use mathlib.Core.Path.{◌≡◌, refl, sym, ap, ◌∙◌}
-use mathlib.Core.Bool.{Bool, true, false, not, ◌||◌, true≢false}
+use mathlib.Core.Path.{◌≡◌, refl, sym, ◌∙◌}
+use mathlib.Core.Bool.{Bool, true, false, not, ◌&&◌, true≢false}
 use mathlib.Core.List.{List}
 use lib.Dec.{eqb}
 use borrow.Author.Tests.{eq-eqb, ne_eqb, eqb-true}
-use Rattle.pixels.proofs.Truths.{both_true, neither_true, not_true, not_false}
+use Rattle.pixels.proofs.Truths.{both_true, neither_true, not_false}
+use denote.Enum.Bare.{sameb}
+use Rattle.pixels_layout.specs.contracts.PixelLayout.{the_type as layout_type}
+use Rattle.job_rules.specs.contracts.Kind.{the_type as kind_type}
 use Rattle.pixels_layout.specs.declared.PixelLayout.{PixelLayout}
 use Rattle.pixels_layout.specs.declared.PixelLayout.TheVariants.{Rgba8, Argb8, Bgra8}
 use Rattle.job_rules.specs.declared.Kind.{Kind}
@@ -14,7 +17,7 @@ use Rattle.job_rules.specs.declared.Plan.{Plan}
 use Rattle.job_rules.specs.Rules.{lanes_of}
 use Rattle.job.specs.declared.Job.{Job}
 use Rattle.group_rules.specs.Group.{plan_at, some, same_layout, same_kind, alike, differing}
-use Rattle.group_rules.proofs.Jobs.{some_none, some_found}
+use Rattle.group_rules.proofs.Jobs.{some_none}
 
 -- ---- two enums compared
 pub layout_of : (a b : PixelLayout) → same_layout a b ≡ true → a ≡ b
@@ -57,30 +60,43 @@ alike_of p q e =
       lanes = eqb-true _ _ lanes.1;
     }
 
--- ---- the test as the code makes it; a and b are what the two comparisons answered
-module _ (p q : Plan) where
-  pub other_width : (q.source.width ≡ p.source.width → ⊥) → false ≡ alike p q
+-- ---- the test as the code makes it: what the derived comparisons answered, each asked where the ones before it passed
+layout_same : (a b : PixelLayout) → sameb layout_type a b ≡ same_layout a b
+layout_same Rgba8 Rgba8 = refl
+layout_same Rgba8 Argb8 = refl
+layout_same Rgba8 Bgra8 = refl
+layout_same Argb8 Rgba8 = refl
+layout_same Argb8 Argb8 = refl
+layout_same Argb8 Bgra8 = refl
+layout_same Bgra8 Rgba8 = refl
+layout_same Bgra8 Argb8 = refl
+layout_same Bgra8 Bgra8 = refl
+
+kind_same : (a b : Kind) → sameb kind_type a b ≡ same_kind a b
+kind_same Picture Picture = refl
+kind_same Picture Plane = refl
+kind_same Plane Picture = refl
+kind_same Plane Plane = refl
+
+pub not_asked : (a b : Bool) {v : Bool} → a ≡ false → v ≡ a → v ≡ (a && b)
+not_asked a b e q = q ∙ rw e refl
+
+module _ (a : Bool) {r v : Bool} where
+  pub layout_asked : (x y : PixelLayout) → a ≡ true → r ≡ sameb layout_type x y → v ≡ r → v ≡ (a && same_layout x y)
+  layout_asked x y e h q = q ∙ h ∙ rw e (layout_same x y)
+
+  pub kind_asked : (x y : Kind) → a ≡ true → r ≡ sameb kind_type x y → v ≡ r → v ≡ (a && same_kind x y)
+  kind_asked x y e h q = q ∙ h ∙ rw e (kind_same x y)
+
+module _ (p q : Plan) (s l k : Bool) (source : s ≡ (eqb q.source.width p.source.width && eqb q.source.height p.source.height))
+    (layout : l ≡ (s && same_layout q.layout p.layout)) (kind : k ≡ (l && same_kind q.kind p.kind)) where
+  pub lanes_decide : k ≡ true → eqb (lanes_of q) (lanes_of p) ≡ alike p q
   unfolding alike
-  other_width h = simp (ne_eqb _ _ h)
+  lanes_decide e = rw (sym source, sym layout, sym kind, e) refl
 
-  module _ (w : q.source.width ≡ p.source.width) where
-    pub other_height : (q.source.height ≡ p.source.height → ⊥) → false ≡ alike p q
-    unfolding alike
-    other_height h = simp (eq-eqb _ _ w, ne_eqb _ _ h)
-
-    module _ (h : q.source.height ≡ p.source.height) (a : Bool) (layout_is : a ≡ same_layout q.layout p.layout) where
-      pub other_layout : not a ≡ true → false ≡ alike p q
-      unfolding alike
-      other_layout e = simp (eq-eqb _ _ w, eq-eqb _ _ h, sym layout_is ∙ not_true a e)
-
-      module _ (layout_same : not a ≡ false) (b : Bool) (kind_is : b ≡ same_kind q.kind p.kind) where
-        pub other_kind_lem : not b ≡ true → false ≡ alike p q
-        unfolding alike
-        other_kind_lem e = simp (eq-eqb _ _ w, eq-eqb _ _ h, sym layout_is ∙ not_false a layout_same, sym kind_is ∙ not_true b e)
-
-        pub lanes_decide : not b ≡ false → eqb (lanes_of q) (lanes_of p) ≡ alike p q
-        unfolding alike
-        lanes_decide e = simp (eq-eqb _ _ w, eq-eqb _ _ h, sym layout_is ∙ not_false a layout_same, sym kind_is ∙ not_false b e)
+  pub others_decide : k ≡ false → k ≡ alike p q
+  unfolding alike
+  others_decide e = rw (sym source, sym layout, sym kind, e) refl
 
 -- ---- the jobs of a group
 abbrev pub unlike : List Job → ℕ → Bool
@@ -91,16 +107,9 @@ module _ (js : List Job) (n : ℕ) where
   unfolding differing
   no_jobs e = simp (eq-eqb n 0 e)
 
-  module _ (jobs : n ≡ 0 → ⊥) where
-    some_decides : some (unlike js) n ≡ differing js n
-    unfolding differing
-    some_decides = simp (ne_eqb n 0 jobs)
-
-    pub one_differs : (i : ℕ) → i < n → unlike js i ≡ true → true ≡ differing js n
-    one_differs i l e = sym (some_found (unlike js) n i l e) ∙ some_decides
-
-    pub none_differs : some (unlike js) n ≡ false → false ≡ differing js n
-    none_differs e = sym e ∙ some_decides
+  pub jobs_decide : (n ≡ 0 → ⊥) → (b : Bool) → b ≡ some (unlike js) n → b ≡ differing js n
+  unfolding differing
+  jobs_decide h b e = e ∙ simp (ne_eqb n 0 h)
 
   pub jobs_there : differing js n ≡ false → n ≡ 0 → ⊥
   jobs_there e z = true≢false (no_jobs z ∙ e)

@@ -2,12 +2,15 @@
 use Prim.Native.Nat.{ℕ, zero, suc, ◌≤◌, ◌<◌}
 use mathlib.Core.Path.{◌≡◌, refl, sym, ◌∙◌, ap}
 use mathlib.Core.List.{List}
-use mathlib.Core.Bool.{Bool, true, false, ◌||◌, ◌&&◌, or-true}
+use mathlib.Core.Bool.{Bool, true, false, ◌||◌, ◌&&◌}
 use mathlib.Core.Logic.{⊎_elim}
 use native.Mathlib.Omega.{arith}
 use native.Mathlib.Nat.{eq-or-lt_of_le, le_of_suc-le-suc}
-use lib.ListN.{length, set, length-set}
+use native.Mathlib.Numerals.{add-one}
+use lib.ListN.{length, set, take, length-set}
 use lib.Seq.{get_or-set_same, get_or-set_other}
+use Rattle.std.specs.List.{list_any, list_all}
+use Rattle.std.proofs.lemmas.List.Folds.{list_any_more, list_all_more}
 use Rattle.pixels.proofs.Truths.{both_true, neither_true}
 use Rattle.job.specs.declared.Job.{Job}
 use Rattle.group_rules.specs.Group.{spare, job_at, every, some, each_job}
@@ -78,6 +81,24 @@ module _ (f : ℕ → Bool) where
   some_found (suc n) i l e =
       some_open n
       ∙ ⊎_elim (λ q. or_right (some f n) (f n) (rw q at e)) (λ m. simp (some_found n i m e)) (eq-or-lt_of_le (le_of_suc-le-suc l))
+
+-- ---- what the library's tests of the first n jobs, n being m, answer
+module _ (test : Job → Bool) (js : List Job) where
+  any_is : (n : ℕ) → n ≤ length js → list_any test (take n js) ≡ some (λ i. test (job_at js i)) n
+  unfolding some
+  any_is zero l = refl
+  any_is (suc n) l = rw (sym (add-one n)) (list_any_more test js n spare (omega arith)) ∙ ap (λ (b : Bool). b || test (job_at js n)) (any_is n (omega arith))
+
+  all_is : (n : ℕ) → n ≤ length js → list_all test (take n js) ≡ every (λ i. test (job_at js i)) n
+  unfolding every
+  all_is zero l = refl
+  all_is (suc n) l = rw (sym (add-one n)) (list_all_more test js n spare (omega arith)) ∙ ap (λ (b : Bool). b && test (job_at js n)) (all_is n (omega arith))
+
+  pub any_tells : (n m : ℕ) (b : Bool) → n ≡ m → m ≤ length js → b ≡ list_any test (take n js) → b ≡ some (λ i. test (job_at js i)) m
+  any_tells n m b e l h = h ∙ rw e (any_is m l)
+
+  pub all_tells : (n m : ℕ) (b : Bool) → n ≡ m → m ≤ length js → b ≡ list_all test (take n js) → b ≡ every (λ i. test (job_at js i)) m
+  all_tells n m b e l h = h ∙ rw e (all_is m l)
 
 -- ---- each of them changed
 module _ (f : Job → Job) where

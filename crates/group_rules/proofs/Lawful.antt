@@ -1,14 +1,13 @@
 -- The rules of a group: the test as the code makes it, and what it says of the group and of each of its jobs. Assumes nothing.
-use Prim.Native.Nat.{ℕ, ◌*◌, ◌≤◌, ◌<◌}
-use mathlib.Core.Path.{◌≡◌, refl, sym, ap, ◌∙◌}
-use mathlib.Core.Bool.{Bool, true, false, not, ◌&&◌}
+use Prim.Native.Nat.{ℕ, ◌≤◌, ◌<◌}
+use mathlib.Core.Path.{◌≡◌, sym, ap, ◌∙◌}
+use mathlib.Core.Bool.{Bool, true, false, not}
 use mathlib.Core.List.{List}
 use native.Mathlib.Nat.{mul-le-mul}
 use native.Mathlib.Omega.{arith}
-use lib.Dec.{eqb, ltb}
-use borrow.Author.Tests.{lt-ltb, le-ltb, eq-eqb, ne_eqb, eqb-true, ltb-false}
+use borrow.Author.Tests.{lt-ltb, le-ltb, eqb-true, ltb-false}
 use Rattle.pixels.specs.Sizes.{LaneCount}
-use Rattle.pixels.proofs.Truths.{both_true, not_true, not_false}
+use Rattle.pixels.proofs.Truths.{both_true, not_true}
 use Rattle.job_rules.specs.Rules.{lanes_of}
 use Rattle.job_rules.proofs.Rules.{rules_of}
 use Rattle.job_rules.proofs.KindRules.{lane_count}
@@ -25,17 +24,6 @@ looked_few n h = omega arith
 
 pub looked_most : (n : ℕ) → looked n ≤ group_limit
 looked_most n = omega arith
-
--- ---- one job, as the code tests it; a is what its own check answered
-module _ (js : List Job) (i : ℕ) (a : Bool) (is : a ≡ lawful (job_at js i)) where
-  pub step_unlawful : not a ≡ true → in_step js i ≡ false
-  step_unlawful e = simp (sym is ∙ not_true a e)
-
-  pub step_apart : not a ≡ false → ((job_at js i).accepted ≡ (job_at js 0).accepted → ⊥) → in_step js i ≡ false
-  step_apart e h = simp (sym is ∙ not_false a e, ne_eqb (job_at js i).accepted (job_at js 0).accepted h)
-
-  pub step_kept : not a ≡ false → (job_at js i).accepted ≡ (job_at js 0).accepted → in_step js i ≡ true
-  step_kept e h = simp (sym is ∙ not_false a e, eq-eqb (job_at js i).accepted (job_at js 0).accepted h)
 
 -- ---- the test as the code makes it; a and b are what its parts answered
 module _ (g : Group) where

@@ -1,5 +1,5 @@
 -- A group of jobs over one source (SCOPE, "Groups"): what its record holds, the rules that it is held to, and the group that a start forms. Assumes nothing.
-use Rattle.std.specs.Prelude.{ℕ, zero, suc, ◌+◌, min, Bool, true, false, not, ◌||◌, ◌&&◌, List, eqb, ltb, get_or, set, replicate}
+use Rattle.std.specs.Prelude.{ℕ, zero, suc, min, Bool, true, false, not, ◌||◌, ◌&&◌, List, eqb, ltb, get_or, set, replicate}
 use Rattle.pixels.specs.Sizes.{work_values}
 use Rattle.pixels_layout.specs.declared.PixelLayout.{PixelLayout}
 use Rattle.pixels_layout.specs.declared.PixelLayout.TheVariants.{Rgba8, Argb8, Bgra8}

@@ -3,7 +3,7 @@
 #![tactic(auto)]
 
 ghost use Rattle.std.specs.Prelude.{◌≡◌};
-ghost use Rattle.group_rules.specs.Group.{spare, same_layout, same_kind, alike, differing, looked, every, group_lawful};
+ghost use Rattle.group_rules.specs.Group.{spare, alike, differing, looked, every, group_lawful};
 ghost use Rattle.group_rules.specs.Inner.{in_step};
 
 use job::Job;
@@ -15,6 +15,7 @@ use pixels_layout::PixelLayout;
 pub const GROUP_LIMIT: usize = 6;
 
 // The record: how many jobs, and theirs. What stands beyond the count says nothing.
+// Kept: the count beside the array, since a record of up to six jobs has fixed memory (no heap).
 #[derive(Clone, Copy)]
 pub struct Group {
     pub count: u32,
@@ -22,6 +23,7 @@ pub struct Group {
 }
 
 // The record of zeros, which stands where no job is. Rules out: a job of one lane; a plane.
+// Kept: written out, since nothing else asks for a default of these five types.
 pub fn no_job() -> Job
     ensures { result ≡ spare }
 {
@@ -55,73 +57,16 @@ pub fn no_job() -> Job
 pub fn looked_at(count: u32) -> usize
     ensures { result ≡ looked count }
 {
-    let n = count as usize;
-    if GROUP_LIMIT < n {
-        return GROUP_LIMIT;
-    }
-    n
+    (count as usize).min(GROUP_LIMIT)
 }
 
 // ---- jobs over one source
-
-fn same_layout(a: PixelLayout, b: PixelLayout) -> bool
-    ensures { result ≡ same_layout a b }
-{
-    match a {
-        PixelLayout::Rgba8 => match b {
-            PixelLayout::Rgba8 => true,
-            PixelLayout::Argb8 => false,
-            PixelLayout::Bgra8 => false,
-        },
-        PixelLayout::Argb8 => match b {
-            PixelLayout::Rgba8 => false,
-            PixelLayout::Argb8 => true,
-            PixelLayout::Bgra8 => false,
-        },
-        PixelLayout::Bgra8 => match b {
-            PixelLayout::Rgba8 => false,
-            PixelLayout::Argb8 => false,
-            PixelLayout::Bgra8 => true,
-        },
-    }
-}
-
-fn same_kind(a: Kind, b: Kind) -> bool
-    ensures { result ≡ same_kind a b }
-{
-    match a {
-        Kind::Picture => match b {
-            Kind::Picture => true,
-            Kind::Plane => false,
-        },
-        Kind::Plane => match b {
-            Kind::Picture => false,
-            Kind::Plane => true,
-        },
-    }
-}
 
 // Source sizes, layouts, kinds and lane counts are the same.
 fn plans_alike(p: Plan, q: Plan) -> bool
     ensures { result ≡ alike p q }
 {
-    if q.source.width != p.source.width {
-        return false;
-    }
-    if q.source.height != p.source.height {
-        return false;
-    }
-    let layout = p.layout;
-    let own_layout = q.layout;
-    if !same_layout(own_layout, layout) {
-        return false;
-    }
-    let kind = p.kind;
-    let own_kind = q.kind;
-    if !same_kind(own_kind, kind) {
-        return false;
-    }
-    q.lanes == p.lanes
+    q.source == p.source && q.layout == p.layout && q.kind == p.kind && q.lanes == p.lanes
 }
 
 // Number 13 of a start: no jobs, or jobs that do not go over one source. Rules out: an empty group let pass; jobs of other layouts.
@@ -133,15 +78,7 @@ pub fn jobs_differ(g: Group) -> bool
         return true;
     }
     let first = g.jobs[0];
-    let mut i: usize = 0;
-    while i < n {
-        let j = g.jobs[i];
-        if !plans_alike(first.plan, j.plan) {
-            return true;
-        }
-        i += 1;
-    }
-    false
+    g.jobs[..n].iter().any(|j| !plans_alike(first.plan, j.plan))
 }
 
 // ---- the record rules
@@ -152,18 +89,9 @@ fn jobs_in_step(g: Group) -> bool
 {
     let n = looked_at(g.count);
     let first = g.jobs[0];
-    let mut i: usize = 0;
-    while i < n {
-        let j = g.jobs[i];
-        if !j.check() {
-            return false;
-        }
-        if j.accepted != first.accepted {
-            return false;
-        }
-        i += 1;
-    }
-    true
+    g.jobs[..n]
+        .iter()
+        .all(|j| j.check() && j.accepted == first.accepted)
 }
 
 // The rules of a group. Rules out: jobs that differ in rows accepted; the first job's own rules tested, no other's.

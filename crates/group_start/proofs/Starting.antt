@@ -1,7 +1,7 @@
 -- A group's start: its tests as the code makes them, of the group g that it forms, and its answers. Assumes nothing.
 use Prim.Native.Nat.{ℕ, ◌≤◌}
 use mathlib.Core.Path.{◌≡◌, sym, ◌∙◌, ap, subst}
-use mathlib.Core.Bool.{Bool, true, false, cond}
+use mathlib.Core.Bool.{Bool, true, cond}
 use mathlib.Core.List.{List, ◌++◌}
 use lib.ListN.{length, drop, replicate}
 use borrow.Author.Tests.{eq-eqb, ltb-false}

@@ -2,8 +2,7 @@
 #![tactic(auto)]
 
 ghost use Rattle.std.specs.Prelude.{◌≡◌, length, set};
-ghost use Rattle.pixels.specs.Refusals.{checked_number};
-ghost use Rattle.job.specs.Answers.{taken_job};
+ghost use Rattle.pixels.specs.Refusals.{answer_number};
 ghost use Rattle.job.specs.Calls as job;
 ghost use Rattle.group_parts.specs.Parts.{part_at, put_at};
 ghost use Rattle.group_rules.specs.Group.{job_at, needs, total};
@@ -11,28 +10,11 @@ ghost use Rattle.group_rules.specs.Tests.{group_take_number};
 ghost use Rattle.group.specs.Calls.{with_jobs, group_ready, group_taken, group_take_out, group_take_work};
 
 use group_rules::{Group, check_group};
-use group_tests::{Placed, check_group_take};
-use job::{Job, Taken};
+use group_tests::check_group_take;
+use job::Answer;
 use job_rules::row_bytes;
-use pixels::Checked;
-
-// Whether a row was written, or why not; and the next record.
-#[derive(Clone, Copy)]
-pub struct TakenGroup {
-    pub answer: Checked,
-    pub group: Group,
-}
 
 // ---- a row goes out
-
-fn taken_job(t: Taken) -> Job
-    ensures { result ≡ taken_job t }
-{
-    match t {
-        Taken::Wrote { job: j } => j,
-        Taken::Refused { why: _, job: j } => j,
-    }
-}
 
 // Job k's own take, on its part of the work values, which starts at `at`.
 fn take_part(mut g: Group, k: usize, at: usize, out: &mut [u8], work: &mut [u32]) -> Group
@@ -42,11 +24,9 @@ fn take_part(mut g: Group, k: usize, at: usize, out: &mut [u8], work: &mut [u32]
     ensures work { work.new ≡ put_at (total g.jobs k) (needs g.jobs k) work.old (job.take_work (job_at g.jobs k) (length out.old) (part_at (needs g.jobs) k work.old)) }
 {
     let j = g.jobs[k];
-    let half = row_bytes(j.plan, j.plan.target.width);
-    let end = at + 2 * half;
-    let t = j.take(out, &mut work[at..end]);
-    let next = taken_job(t);
-    g.jobs[k] = next;
+    let end = at + 2 * row_bytes(j.plan, j.plan.target.width);
+    let taken = j.take(out, &mut work[at..end]);
+    g.jobs[k] = taken.next;
     g
 }
 
@@ -69,24 +49,21 @@ pub fn group_ready(g: Group, job: u32) -> u32
 
 // Takes the next output row of a job, counted from 0.
 // Rules out: the record of the named job not advanced; a take on the first job's part.
-pub fn take_group(g: Group, job: u32, out: &mut [u8], work: &mut [u32]) -> TakenGroup
-    ensures number { checked_number result.answer ≡ group_take_number g job (length out.old) (length work.old) }
-    ensures group { result.group ≡ group_taken g job (length out.old) work.old }
+pub fn take_group(g: Group, job: u32, out: &mut [u8], work: &mut [u32]) -> Answer<(), Group>
+    ensures number { answer_number result.said ≡ group_take_number g job (length out.old) (length work.old) }
+    ensures group { result.next ≡ group_taken g job (length out.old) work.old }
     ensures out { out.new ≡ group_take_out g job out.old work.old }
     ensures work { work.new ≡ group_take_work g job (length out.old) work.old }
 {
     let placed = check_group_take(g, job, out.len(), work.len());
     match placed {
-        Placed::Refused { why } => TakenGroup {
-            answer: Checked::Refused(why),
-            group: g,
+        Err(why) => Answer {
+            said: Err(why),
+            next: g,
         },
-        Placed::At { place } => {
-            let next = take_part(g, job as usize, place, out, work);
-            TakenGroup {
-                answer: Checked::Fit,
-                group: next,
-            }
-        }
+        Ok(place) => Answer {
+            said: Ok(()),
+            next: take_part(g, job as usize, place, out, work),
+        },
     }
 }

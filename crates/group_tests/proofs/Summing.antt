@@ -11,13 +11,12 @@ use Rattle.group_rules.specs.declared.Group.{Group}
 use Rattle.group_rules.specs.Group.{group_limit, plan_at, needs, total, group_lawful}
 use Rattle.group_rules.proofs.Lawful.{lawful_group, need_most}
 
-pub record Summing (g : Group) (n at i : ℕ) : Type 0 where
-  pub upto : i ≤ n
+pub record Summing (g : Group) (at i : ℕ) : Type 0 where
   pub place : at ≡ total g.jobs i
   pub most : at ≤ i * 131072
 
-pub summing_first : (g : Group) (n : ℕ) → Summing g n 0 0
-summing_first g n = record { upto = omega arith; place = sym (offset_zero (needs g.jobs)); most = omega arith }
+pub summing_first : (g : Group) → Summing g 0 0
+summing_first g = record { place = sym (offset_zero (needs g.jobs)); most = omega arith }
 
 module _ (g : Group) (n : ℕ) (good : (group_lawful g ≡ true) × (n ≤ g.count)) (i : ℕ) (l : i < n) where
   pub within : i < group_limit
@@ -27,16 +26,15 @@ module _ (g : Group) (n : ℕ) (good : (group_lawful g ≡ true) × (n ≤ g.cou
   pub half_most : (b : ℕ) → b ≡ row_bytes (lanes_of (plan_at g.jobs i)) (plan_at g.jobs i).target.width → 2 * b ≤ 131072
   half_most b is = omega (arith, is, need_most g.jobs i ((lawful_group g good.0).member i (omega (arith, good.1))).rules)
 
-  module _ (at : ℕ) (v : Summing g n at i) (b : ℕ) (is : b ≡ row_bytes (lanes_of (plan_at g.jobs i)) (plan_at g.jobs i).target.width) where
+  module _ (at : ℕ) (v : Summing g at i) (b : ℕ) (is : b ≡ row_bytes (lanes_of (plan_at g.jobs i)) (plan_at g.jobs i).target.width) where
     pub sum_most : at + 2 * b ≤ group_limit * 131072
     sum_most = omega (arith, v.most, within, half_most b is)
 
-    pub summing_more : Summing g n (at + 2 * b) (i + 1)
+    pub summing_more : Summing g (at + 2 * b) (i + 1)
     summing_more = record {
-      upto = omega arith;
       place = rw (add-one i) (rw (offset_suc (needs g.jobs) i) (rw v.place (ap (λ (x : ℕ). total g.jobs i + 2 * x) is)));
       most = omega (arith, v.most, half_most b is);
     }
 
-pub summed : (g : Group) (n at i : ℕ) → Summing g n at i → n ≤ i → at ≡ total g.jobs n
-summed g n at i v l = let e : i ≡ n = omega (arith, v.upto) in v.place ∙ ap (total g.jobs) e
+pub summed : (g : Group) (n at i : ℕ) → Summing g at i → i ≡ n → at ≡ total g.jobs n
+summed g n at i v e = v.place ∙ ap (total g.jobs) e

@@ -10,7 +10,7 @@ use group_start::start_group;
 use group_take::take_group;
 use job::Job;
 use job_rules::{Kind, Plan, row_bytes};
-use pixels::{Checked, Dimensions, Rect};
+use pixels::{Dimensions, Rect, Refusal};
 use pixels_layout::PixelLayout;
 use std::io;
 
@@ -37,7 +37,7 @@ fn previews(rt: &impl Print) -> io::Result<()> {
 fn one_pass(rt: &impl Print, pixels: &[u8]) -> io::Result<()> {
     let mut work = [7u32; 49];
     let started = start_group(three(), 3, &mut work);
-    let fresh = started.group;
+    let fresh = started.next;
     let done = turns(rt, fresh, 5, pixels, &mut work)?;
     counts(rt, done)
 }
@@ -100,33 +100,25 @@ fn offer_rest(rt: &impl Print, group: Group, pixels: &[u8], work: &mut [u32]) ->
     let row = row_bytes(job.plan, job.plan.source.width);
     let at = place(row, job.accepted, pixels.len());
     let offered = offer_group(group, &pixels[at..], work);
-    let answer = offered.answer;
-    number(rt, answer)?;
-    println!(rt; "{} rows accepted", offered.rows)?;
-    Ok(offered.group)
+    number(rt, offered.said)?;
+    println!(rt; "{} rows accepted", offered.said.unwrap_or(0))?;
+    Ok(offered.next)
 }
 
 // The next row of a job.
 fn take_row(rt: &impl Print, group: Group, i: u32, work: &mut [u32]) -> io::Result<Group> {
     let mut row = [1u8; 8];
     let taken = take_group(group, i, &mut row, work);
-    let answer = taken.answer;
-    number(rt, answer)?;
+    number(rt, taken.said)?;
     hex_line(rt, &row)?;
-    Ok(taken.group)
+    Ok(taken.next)
 }
 
 // Where row k starts, of `row` bytes each, or the end of the bytes where that is before it.
 fn place(row: usize, k: u32, len: usize) -> usize
     ensures { result ≤ len }
 {
-    if row == 0 {
-        return 0;
-    }
-    if len / row < k as usize {
-        return len;
-    }
-    row * k as usize
+    row.saturating_mul(k as usize).min(len)
 }
 
 // ---- starts
@@ -212,8 +204,7 @@ fn start_line(
     work: &mut [u32],
 ) -> io::Result<()> {
     let started = start_group(plans, count, work);
-    let answer = started.answer;
-    number(rt, answer)?;
+    number(rt, started.said)?;
     println!(rt; "start")
 }
 
@@ -227,9 +218,8 @@ fn turned_away(rt: &impl Print) -> io::Result<()> {
 
 fn takes(rt: &impl Print, rows: &[u8], work: &mut [u32]) -> io::Result<()> {
     let started = start_group(three(), 3, work);
-    let fresh = started.group;
-    let offered = offer_group(fresh, rows, work);
-    let group = offered.group;
+    let offered = offer_group(started.next, rows, work);
+    let group = offered.next;
     lengths(rt, group)?;
     ready(rt, group, work)
 }
@@ -259,17 +249,16 @@ fn take_line(
     work: &mut [u32],
 ) -> io::Result<()> {
     let taken = take_group(group, job, out, work);
-    let answer = taken.answer;
-    number(rt, answer)?;
+    number(rt, taken.said)?;
     println!(rt; "take")
 }
 
 // ---- writing
 
-fn number(rt: &impl Print, answer: Checked) -> io::Result<()> {
+fn number<T: Copy>(rt: &impl Print, answer: Result<T, Refusal>) -> io::Result<()> {
     match answer {
-        Checked::Fit => print!(rt; "0: "),
-        Checked::Refused(why) => print!(rt; "{}: ", why.number()),
+        Ok(_) => print!(rt; "0: "),
+        Err(why) => print!(rt; "{}: ", why.number()),
     }
 }
 
@@ -290,6 +279,7 @@ fn count_line(rt: &impl Print, job: Job) -> io::Result<()> {
     )
 }
 
+// Kept, as `number` and `place`, in each program of trials, so that it is read alone: a crate for these few lines would owe contracts.
 fn hex_line(rt: &impl Print, bytes: &[u8]) -> io::Result<()> {
     for byte in bytes {
         print!(rt; "{byte:02x}")?;

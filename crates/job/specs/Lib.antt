@@ -1,4 +1,3 @@
-pub mod Answers
 pub mod Record
 pub mod Calls
 pub mod Inner

@@ -3,16 +3,14 @@
 #![tactic(auto)]
 
 ghost use Rattle.std.specs.Prelude.{◌≡◌, ◌||◌, length};
-ghost use Rattle.pixels.specs.Refusals.{flagged_flag};
-ghost use Rattle.job.specs.Answers.{offered_number, offered_rows, offered_job, taken_number, taken_job};
+ghost use Rattle.pixels.specs.Refusals.{answer_number, value_or, flagged_flag};
 ghost use Rattle.job.specs.Record.{lawful, ready_of, Rules};
 ghost use Rattle.job.specs.Calls.{most_rows, fed, count, offer_number, offer_rows, offer_job, offer_work, take_number, more_taken, row_taken, work_taken, take_job, take_out, take_work};
 
 use job_rules::{Plan, check_offer, check_rules, check_take, row_bytes, row_form};
-use pixels::{Checked, Flagged, Refusal};
+use pixels::Refusal;
 use rows_in::put_source_row;
 use rows_out::take_row;
-use rows_schedule::rows_by;
 
 // The record: the plan, source rows accepted, preview rows taken, and whether a taken row had an alpha byte other than 255; a plane's has none.
 #[derive(Clone, Copy)]
@@ -23,23 +21,18 @@ pub struct Job {
     pub flag: bool,
 }
 
-// How many of the rows lent were accepted, or why none; and the next record.
+// What a call that takes a record says: its answer, and the next record, which is the one passed in where the call was refused.
+// Kept beside the Result: "a call takes the record and hands back the next one", by a refusal too (`offer_job`, `take_job`).
 #[derive(Clone, Copy)]
-pub enum Offered {
-    Accepted { rows: u32, job: Job },
-    Refused { why: Refusal, job: Job },
-}
-
-// A row was written, or why not; and the next record.
-#[derive(Clone, Copy)]
-pub enum Taken {
-    Wrote { job: Job },
-    Refused { why: Refusal, job: Job },
+pub struct Answer<T, R> {
+    pub said: Result<T, Refusal>,
+    pub next: R,
 }
 
 // ---- rows come in
 
 // The rows lent or those that the source has left, whichever are fewer; n is the number of bytes lent.
+// Kept beside that of a group: a function with a `requires` is called within its crate alone.
 fn most_rows(j: Job, n: usize) -> u32
     requires { Rules j }
     ensures { result ≡ most_rows j n }
@@ -63,10 +56,9 @@ fn accept(j: Job, rows: &[u8], work: &mut [u32]) -> u32
     let form = row_form(p);
     let most = most_rows(j, rows.len());
     let stride = row_bytes(p, p.source.width);
-    let mut i: u32 = 0;
-    let n = loop {
+    for i in 0..most {
         let at = stride * i as usize;
-        put_source_row(
+        let _ = put_source_row(
             form,
             p.crop,
             p.target,
@@ -74,31 +66,21 @@ fn accept(j: Job, rows: &[u8], work: &mut [u32]) -> u32
             &rows[at..at + stride],
             work,
         );
-        i += 1;
-        if i == most {
-            break i;
-        }
-        let made = rows_by(p.crop.y, p.crop.height, p.target.height, j.accepted + i);
+        let made = p.made(j.accepted + (i + 1));
         if (j.taken as u64) < made {
-            break i;
+            return i + 1;
         }
-    };
-    n
+    }
+    most
 }
 
 // ---- a row goes out
 
 // The flag so far, joined by that of the row just made.
-fn flag_after(flag: bool, made: Flagged) -> bool
+fn flag_after(flag: bool, made: Result<bool, Refusal>) -> bool
     ensures { result ≡ (flag || flagged_flag made) }
 {
-    if flag {
-        return true;
-    }
-    match made {
-        Flagged::Flag(f) => f,
-        Flagged::Refused(_) => false,
-    }
+    flag || made.unwrap_or(false)
 }
 
 // The row of a take that passed its tests; returns the record's next flag. The layer below does not refuse it.
@@ -133,19 +115,19 @@ impl Job {
             return 0;
         }
         let p = self.plan;
-        let made = rows_by(p.crop.y, p.crop.height, p.target.height, self.accepted);
+        let made = p.made(self.accepted);
         (made - self.taken as u64) as u32
     }
 
     // Offers one or more whole source rows; returns how many were accepted.
     // Rules out: an offer that goes on past the first row that makes an output row ready; a count that was not fed; rows fed that the record does not count.
-    pub fn offer(mut self, rows: &[u8], work: &mut [u32]) -> Offered
-        ensures number { offered_number result ≡ offer_number self (length rows.now) (length work.old) }
-        ensures rows { offered_rows result ≡ offer_rows self (length rows.now) (length work.old) }
-        ensures job { offered_job result ≡ offer_job self (length rows.now) (length work.old) }
+    pub fn offer(mut self, rows: &[u8], work: &mut [u32]) -> Answer<u32, Job>
+        ensures number { answer_number result.said ≡ offer_number self (length rows.now) (length work.old) }
+        ensures rows { value_or 0 result.said ≡ offer_rows self (length rows.now) (length work.old) }
+        ensures job { result.next ≡ offer_job self (length rows.now) (length work.old) }
         ensures work { work.new ≡ offer_work self rows.now work.old }
     {
-        let checked = check_offer(
+        let said = check_offer(
             self.plan,
             self.accepted,
             self.taken,
@@ -153,29 +135,31 @@ impl Job {
             rows.len(),
             work.len(),
         );
-        match checked {
-            Checked::Refused(why) => {
-                return Offered::Refused {
-                    why: why,
-                    job: self,
-                };
+        match said {
+            Err(why) => Answer {
+                said: Err(why),
+                next: self,
+            },
+            Ok(()) => {
+                let n = accept(self, rows, work);
+                self.accepted += n;
+                Answer {
+                    said: Ok(n),
+                    next: self,
+                }
             }
-            Checked::Fit => {}
         }
-        let n = accept(self, rows, work);
-        self.accepted = self.accepted + n;
-        Offered::Accepted { rows: n, job: self }
     }
 
     // Takes the next output row; its alpha flag joins the record's.
     // Rules out: a row skipped; a take that advances and writes nothing; the flag of the row just taken dropped.
-    pub fn take(mut self, out: &mut [u8], work: &mut [u32]) -> Taken
-        ensures number { taken_number result ≡ take_number self (length out.old) (length work.old) }
-        ensures job { taken_job result ≡ take_job self (length out.old) work.old }
+    pub fn take(mut self, out: &mut [u8], work: &mut [u32]) -> Answer<(), Job>
+        ensures number { answer_number result.said ≡ take_number self (length out.old) (length work.old) }
+        ensures job { result.next ≡ take_job self (length out.old) work.old }
         ensures out { out.new ≡ take_out self out.old work.old }
         ensures work { work.new ≡ take_work self (length out.old) work.old }
     {
-        let checked = check_take(
+        let said = check_take(
             self.plan,
             self.accepted,
             self.taken,
@@ -183,18 +167,19 @@ impl Job {
             out.len(),
             work.len(),
         );
-        match checked {
-            Checked::Refused(why) => {
-                return Taken::Refused {
-                    why: why,
-                    job: self,
-                };
+        match said {
+            Err(why) => Answer {
+                said: Err(why),
+                next: self,
+            },
+            Ok(()) => {
+                self.flag = row_out(self, out, work);
+                self.taken += 1;
+                Answer {
+                    said: Ok(()),
+                    next: self,
+                }
             }
-            Checked::Fit => {}
         }
-        let flag = row_out(self, out, work);
-        self.taken = self.taken + 1;
-        self.flag = flag;
-        Taken::Wrote { job: self }
     }
 }

@@ -1,6 +1,6 @@
 -- When a band is turned away (SCOPE, "Bands"): 17 as the code tests it, and that a band which passes 6 and 17 gets the number that an offer of the same rows gets.
 -- Where that is 0, the offer accepts all of them. Assumes nothing.
-use Prim.Native.Nat.{ℕ, zero, suc, ◌*◌, ◌-◌, ◌/◌, ◌%◌, ◌≤◌, ◌<◌}
+use Prim.Native.Nat.{ℕ, zero, suc, ◌*◌, ◌/◌, ◌%◌, ◌≤◌, ◌<◌}
 use mathlib.Core.Path.{◌≡◌, refl, sym, ap, ◌∙◌}
 use mathlib.Core.Logic.{◌⊎◌, inl, inr}
 use mathlib.Core.Bool.{true, false, not, ◌||◌, or-true, true≢false}

@@ -3,19 +3,18 @@
 #![tactic(auto)]
 
 ghost use Rattle.std.specs.Prelude.{◌≡◌, not, ◌||◌, eqb, length};
-ghost use Rattle.pixels.specs.Refusals.{checked_number};
+ghost use Rattle.pixels.specs.Refusals.{answer_number, value_or};
 ghost use Rattle.job.specs.Record.{Rules};
 ghost use Rattle.job.specs.Inner.{RowAsks};
-ghost use Rattle.job.specs.Answers.{offered_number, offered_rows, offered_job};
 ghost use Rattle.job.specs.Calls.{offer_work};
 ghost use Rattle.job_band.specs.Bands.{band_rows, next_band, band_number, band_accepted, band_job, band_work};
 ghost use Rattle.job_band.specs.Inner.{second_put};
 
-use job::{Job, Offered};
+use job::{Answer, Job};
 use job_rules::{Plan, check_offer, row_bytes, row_form};
-use pixels::{Checked, Dimensions, Rect, Refusal};
+use pixels::{Dimensions, Rect, Refusal};
 use rows_in::put_source_row;
-use rows_schedule::{needed_rows, rows_by};
+use rows_schedule::needed_rows;
 
 // ---- how many rows the next band has
 
@@ -31,7 +30,7 @@ fn band_of(j: Job) -> u32
     if p.crop.height < p.target.height {
         return 0;
     }
-    let made = rows_by(p.crop.y, p.crop.height, p.target.height, j.accepted);
+    let made = p.made(j.accepted);
     if p.target.height as u64 <= made {
         return 0;
     }
@@ -62,17 +61,17 @@ fn wrong_stretch(bytes: usize, band: usize) -> bool
     bytes != band
 }
 
-fn check_band(j: Job, bytes: usize, work: usize) -> Checked
-    ensures { checked_number result ≡ band_number j bytes work }
+fn check_band(j: Job, bytes: usize, work: usize) -> Result<(), Refusal>
+    ensures { answer_number result ≡ band_number j bytes work }
 {
     let lawful = j.check();
     if !lawful {
-        return Checked::Refused(Refusal::InvalidRecord);
+        return Err(Refusal::InvalidRecord);
     }
     let p = j.plan;
     let band = row_bytes(p, p.source.width) * band_of(j) as usize;
     if wrong_stretch(bytes, band) {
-        return Checked::Refused(Refusal::InvalidBand);
+        return Err(Refusal::InvalidBand);
     }
     check_offer(p, j.accepted, j.taken, j.flag, bytes, work)
 }
@@ -95,7 +94,7 @@ fn put_second(p: Plan, row: &[u8], work: &mut [u32])
         width: p.target.width,
         height: 2,
     };
-    put_source_row(form, crop, target, 0, row, work);
+    let _ = put_source_row(form, crop, target, 0, row, work);
 }
 
 // The rows of a band that passed its tests, from last to first; then the last once more into the second half, where an offer leaves it.
@@ -108,11 +107,9 @@ fn add_band(j: Job, rows: &[u8], work: &mut [u32]) -> u32
     let form = row_form(p);
     let stride = row_bytes(p, p.source.width);
     let n = band_of(j);
-    let mut i = n;
-    while 0 < i {
-        i -= 1;
+    for i in (0..n).rev() {
         let at = stride * i as usize;
-        put_source_row(
+        let _ = put_source_row(
             form,
             p.crop,
             p.target,
@@ -133,21 +130,23 @@ fn add_band(j: Job, rows: &[u8], work: &mut [u32]) -> u32
 
 // Offers the rows of the next band, top row first; they are added from last to first.
 // Rules out: 17 told of a record that breaks the rules; an empty stretch let pass; the second half left with the band's first row; rows added that the record does not count.
-pub fn offer_band(j: Job, rows: &[u8], work: &mut [u32]) -> Offered
-    ensures number { offered_number result ≡ band_number j (length rows.now) (length work.old) }
-    ensures rows { offered_rows result ≡ band_accepted j (length rows.now) (length work.old) }
-    ensures job { offered_job result ≡ band_job j (length rows.now) (length work.old) }
+pub fn offer_band(j: Job, rows: &[u8], work: &mut [u32]) -> Answer<u32, Job>
+    ensures number { answer_number result.said ≡ band_number j (length rows.now) (length work.old) }
+    ensures rows { value_or 0 result.said ≡ band_accepted j (length rows.now) (length work.old) }
+    ensures job { result.next ≡ band_job j (length rows.now) (length work.old) }
     ensures work { work.new ≡ band_work j rows.now work.old }
 {
-    let checked = check_band(j, rows.len(), work.len());
-    match checked {
-        Checked::Refused(why) => {
-            return Offered::Refused { why: why, job: j };
+    let said = check_band(j, rows.len(), work.len());
+    match said {
+        Err(why) => Answer {
+            said: Err(why),
+            next: j,
+        },
+        Ok(()) => {
+            let n = add_band(j, rows, work);
+            let mut next = j;
+            next.accepted += n;
+            Answer { said: Ok(n), next }
         }
-        Checked::Fit => {}
     }
-    let n = add_band(j, rows, work);
-    let mut next = j;
-    next.accepted = j.accepted + n;
-    Offered::Accepted { rows: n, job: next }
 }

@@ -1,15 +1,14 @@
 // A borrowed picture (SCOPE, "Lanes": "A borrowed picture, as `ImageRef`, holds size, layout and pixels"; the Rust: ImageRef of image.rs).
-// Each function over it takes it apart and calls a function of plain parameters, which does the work.
 #![tactic(auto)]
 
 ghost use Rattle.std.specs.Prelude.{◌≡◌, length};
-ghost use Rattle.pixels.specs.Refusals.{checked_number, flagged_number, flagged_flag};
+ghost use Rattle.pixels.specs.Refusals.{answer_number, flagged_flag};
 ghost use Rattle.pixels_alpha.specs.Alpha.{picture_number, picture_flag};
 ghost use Rattle.pixels_crop.specs.Crop.{crop_number, crop_flag, crop_out};
 ghost use Rattle.job_resize.specs.Resize.{resize_number, resize_flag, resize_out, resize_work};
 
 use job_resize::resize;
-use pixels::{Checked, Dimensions, Flagged, Rect};
+use pixels::{Dimensions, Rect, Refusal};
 use pixels_alpha::{check_picture, picture_has_alpha};
 use pixels_crop::crop;
 use pixels_layout::PixelLayout;
@@ -21,73 +20,25 @@ pub struct ImageRef<'a> {
     pub pixels: &'a [u8],
 }
 
-// What `new` answers: the picture, and whether its size and its length pass. The picture is there in each case; one that does not pass is refused again wherever it
-// is used.
+// What `new` answers: the picture, and whether its size and its length pass.
+// Kept beside the Result: the picture is there in each case (`dims`, `layout`, `pixels` of `new`); one that does not pass is refused again wherever it is used.
 #[derive(Clone, Copy)]
 pub struct Borrowed<'a> {
-    pub checked: Checked,
+    pub checked: Result<(), Refusal>,
     pub image: ImageRef<'a>,
-}
-
-// The work of new: numbers 1 and 3, in that order, of a picture of the size in these bytes.
-fn check_of(dims: Dimensions, pixels: &[u8]) -> Checked
-    ensures { checked_number result ≡ picture_number dims (length pixels.now) }
-{
-    check_picture(dims, pixels.len())
-}
-
-// The work of has_alpha, on plain parameters: the fields in their order.
-fn flag_of(dims: Dimensions, layout: PixelLayout, pixels: &[u8]) -> Flagged
-    ensures number { flagged_number result ≡ picture_number dims (length pixels.now) }
-    ensures flag { flagged_flag result ≡ picture_flag dims layout pixels.now }
-{
-    picture_has_alpha(dims, layout, pixels)
-}
-
-// The work of crop: the fields in their order, and its parameters.
-fn crop_of(
-    dims: Dimensions,
-    layout: PixelLayout,
-    pixels: &[u8],
-    rect: Rect,
-    out: &mut [u8],
-) -> Flagged
-    ensures number { flagged_number result ≡ crop_number dims rect (length pixels.now) (length out.old) }
-    ensures flag { flagged_flag result ≡ crop_flag dims layout rect pixels.now (length out.old) }
-    ensures out { out.new ≡ crop_out dims rect pixels.now out.old }
-{
-    crop(dims, layout, pixels, rect, out)
-}
-
-// The work of resize: the fields in their order, and its parameters.
-fn resize_of(
-    dims: Dimensions,
-    layout: PixelLayout,
-    pixels: &[u8],
-    target: Dimensions,
-    out: &mut [u8],
-    work: &mut [u32],
-) -> Flagged
-    ensures number { flagged_number result ≡ resize_number dims target (length pixels.now) (length out.old) (length work.old) }
-    ensures flag { flagged_flag result ≡ resize_flag dims layout target pixels.now (length out.old) (length work.old) }
-    ensures out { out.new ≡ resize_out dims layout target pixels.now out.old (length work.old) }
-    ensures work { work.new ≡ resize_work dims layout target pixels.now (length out.old) work.old }
-{
-    resize(dims, layout, target, pixels, out, work)
 }
 
 impl<'a> ImageRef<'a> {
     // The Rust's new, which tests the length; the size is tested too, since a size counts, whoever filled it.
     // Rules out: twelve bytes for each pixel passed; the size handed back with its sides exchanged.
     pub fn new(dims: Dimensions, layout: PixelLayout, pixels: &'a [u8]) -> Borrowed<'a>
-        ensures number { checked_number result.checked ≡ picture_number dims (length pixels.now) }
+        ensures number { answer_number result.checked ≡ picture_number dims (length pixels.now) }
         ensures dims { result.image.dims ≡ dims }
         ensures layout { result.image.layout ≡ layout }
         ensures pixels { result.image.pixels ≡ pixels.entry }
     {
-        let checked = check_of(dims, pixels);
         Borrowed {
-            checked,
+            checked: check_picture(dims, pixels.len()),
             image: ImageRef {
                 dims,
                 layout,
@@ -118,29 +69,34 @@ impl<'a> ImageRef<'a> {
     }
 
     // The alpha flag, as the Rust's Image::new derives it. Rules out: the flag of another layout; the flag of a square's pixels.
-    pub fn has_alpha(self) -> Flagged
-        ensures number { flagged_number result ≡ picture_number self.entry.dims (length self.entry.pixels.now) }
+    pub fn has_alpha(self) -> Result<bool, Refusal>
+        ensures number { answer_number result ≡ picture_number self.entry.dims (length self.entry.pixels.now) }
         ensures flag { flagged_flag result ≡ picture_flag self.entry.dims self.entry.layout self.entry.pixels.now }
     {
-        flag_of(self.dims, self.layout, self.pixels)
+        picture_has_alpha(self.dims, self.layout, self.pixels)
     }
 
     // The Rust's Image::crop. Rules out: the flag of another layout; every crop from the left edge.
-    pub fn crop(self, rect: Rect, out: &mut [u8]) -> Flagged
-        ensures number { flagged_number result ≡ crop_number self.entry.dims rect (length self.entry.pixels.now) (length out.old) }
+    pub fn crop(self, rect: Rect, out: &mut [u8]) -> Result<bool, Refusal>
+        ensures number { answer_number result ≡ crop_number self.entry.dims rect (length self.entry.pixels.now) (length out.old) }
         ensures flag { flagged_flag result ≡ crop_flag self.entry.dims self.entry.layout rect self.entry.pixels.now (length out.old) }
         ensures out { out.new ≡ crop_out self.entry.dims rect self.entry.pixels.now out.old }
     {
-        crop_of(self.dims, self.layout, self.pixels, rect, out)
+        crop(self.dims, self.layout, self.pixels, rect, out)
     }
 
     // The Rust's Image::resize. Rules out: a picture of the source's own size; one of another layout.
-    pub fn resize(self, target: Dimensions, out: &mut [u8], work: &mut [u32]) -> Flagged
-        ensures number { flagged_number result ≡ resize_number self.entry.dims target (length self.entry.pixels.now) (length out.old) (length work.old) }
+    pub fn resize(
+        self,
+        target: Dimensions,
+        out: &mut [u8],
+        work: &mut [u32],
+    ) -> Result<bool, Refusal>
+        ensures number { answer_number result ≡ resize_number self.entry.dims target (length self.entry.pixels.now) (length out.old) (length work.old) }
         ensures flag { flagged_flag result ≡ resize_flag self.entry.dims self.entry.layout target self.entry.pixels.now (length out.old) (length work.old) }
         ensures out { out.new ≡ resize_out self.entry.dims self.entry.layout target self.entry.pixels.now out.old (length work.old) }
         ensures work { work.new ≡ resize_work self.entry.dims self.entry.layout target self.entry.pixels.now (length out.old) work.old }
     {
-        resize_of(self.dims, self.layout, self.pixels, target, out, work)
+        resize(self.dims, self.layout, target, self.pixels, out, work)
     }
 }

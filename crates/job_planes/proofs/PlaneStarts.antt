@@ -1,6 +1,6 @@
 -- Three planes: where no number applies, each plane's own start is accepted; where one does, none is started. Assumes nothing.
 use Prim.Native.Nat.{ℕ, ◌*◌, ◌≤◌, ◌<◌}
-use mathlib.Core.Path.{◌≡◌, refl, sym, ap, ◌∙◌}
+use mathlib.Core.Path.{◌≡◌, sym, ◌∙◌}
 use mathlib.Core.Bool.{true, false}
 use mathlib.Core.List.{List}
 use native.Mathlib.Omega.{arith}
@@ -16,8 +16,6 @@ use Rattle.pixels.proofs.Fitting.{size_of_lem, lanes_good, not_empty, within, ri
 use Rattle.pixels.proofs.Numbers.{buffer_refused}
 use Rattle.job_rules.specs.declared.Plan.{Plan}
 use Rattle.job_rules.specs.Rules.{start_causes, start_number}
-use Rattle.job.specs.declared.Job.{Job}
-use Rattle.job.specs.Record.{fresh}
 use Rattle.job_start.specs.Start.{cleared, start_work}
 use Rattle.job_start.proofs.Starting.{start_went}
 use Rattle.job_planes.specs.Planes.{chroma_of, plane_for, chroma_for, planes_causes, planes_number, plane_work}

@@ -1,15 +1,12 @@
 -- A picture of three planes (SCOPE, "Planes"): "luma full size, both chroma planes half size rounded up, in source and target alike; one lane each, uncropped", as
 -- three jobs "with a work slice each, or none where a number applies to any". Assumes nothing.
-use Rattle.std.specs.Prelude.{ℕ, ◌+◌, ◌/◌, List, [], ◌∷◌, length}
+use Rattle.std.specs.Prelude.{ℕ, ◌+◌, ◌/◌, List, [], ◌∷◌}
 use Rattle.pixels.specs.declared.Dimensions.{Dimensions}
-use Rattle.pixels.specs.Refusals.{Cause, number, first, few_work, buffer_if}
+use Rattle.pixels.specs.Refusals.{Cause, first, few_work, buffer_if}
 use Rattle.pixels.specs.Sizes.{work_values, wrong_size, size_of, rect_of}
 use Rattle.job_rules.specs.declared.Plan.{Plan}
 use Rattle.job_rules.specs.Rules.{plane_of}
-use Rattle.job.specs.declared.Job.{Job}
 use Rattle.job_start.specs.Start.{cleared}
-use Rattle.job_planes.specs.declared.StartedPlanes.{StartedPlanes}
-use Rattle.job_planes.specs.declared.StartedPlanes.TheVariants as started
 
 -- "half size rounded up"
 abbrev pub chroma_side : ℕ → ℕ
@@ -44,21 +41,3 @@ planes_number source target luma cb cr = first (planes_causes source target luma
 -- a work slice afterwards, with the number n and its plane's plan: cleared, or as it was
 abbrev pub plane_work : ℕ → Plan → List ℕ → List ℕ
 plane_work n p work = buffer_if n (cleared p work) work
-
--- ---- the answer
-abbrev pub started_planes_number : StartedPlanes → ℕ
-started_planes_number (started.Fresh luma cb cr) = 0
-started_planes_number (started.Refused why) = number why
-
--- its records; a refusal has none, and `other` stands for each
-abbrev pub luma_job : Job → StartedPlanes → Job
-luma_job other (started.Fresh luma cb cr) = luma
-luma_job other (started.Refused why) = other
-
-abbrev pub cb_job : Job → StartedPlanes → Job
-cb_job other (started.Fresh luma cb cr) = cb
-cb_job other (started.Refused why) = other
-
-abbrev pub cr_job : Job → StartedPlanes → Job
-cr_job other (started.Fresh luma cb cr) = cr
-cr_job other (started.Refused why) = other

@@ -12,9 +12,10 @@ use Rattle.pixels.specs.declared.Dimensions.{Dimensions}
 use Rattle.pixels.specs.declared.Rect.{Rect}
 use Rattle.pixels_layout.specs.declared.PixelLayout.{PixelLayout}
 use Rattle.pixels.specs.declared.Refusal.{Refusal}
-use Rattle.pixels.specs.Refusals.{number}
+use Rattle.std.specs.Prelude.{Result, Ok}
+use Rattle.pixels.specs.Refusals.{number, value_or}
 use Rattle.pixels.specs.Sizes.{pixel_lanes, half_values, work_values, picture_bytes, sizes_causes, sizes_number, Fits}
-use Rattle.pixels.proofs.Numbers.{number_pos, not_zero}
+use Rattle.pixels.proofs.Numbers.{not_zero, value_of}
 use Rattle.pixels.proofs.Truths.{same_of}
 use Rattle.pixels.proofs.Causes.{first_none, none_applies}
 use Rattle.pixels.proofs.Fitting.{fits_of, lanes_good}
@@ -22,9 +23,7 @@ use Rattle.job_rules.specs.declared.Plan.{Plan}
 use Rattle.job_rules.specs.Rules.{plan_of, kind_fits, start_causes, start_number}
 use Rattle.job_rules.specs.declared.Kind.TheVariants.{Picture}
 use Rattle.job.specs.declared.Job.{Job}
-use Rattle.job_start.specs.declared.Started.{Started}
-use Rattle.job_start.specs.declared.Started.TheVariants as started
-use Rattle.job_start.specs.Start.{started_number, started_job, start_work, cleared}
+use Rattle.job_start.specs.Start.{start_work, cleared}
 use Rattle.job.specs.Record.{fresh}
 use Rattle.job_claim.specs.Rows.{full_crop, resize_plan, resized, resized_flag}
 use Rattle.job_resize.specs.Resize.{resize_causes, resize_number, resize_flag, resize_out, resize_work, last_first, last_second, resized_work}
@@ -72,13 +71,10 @@ module _ (source : Dimensions) (layout : PixelLayout) (target : Dimensions) (pix
 
   -- ---- the job
   module _ (goes : n ≡ 0) (crop : Rect) (full : crop ≡ full_crop source) where
-    started_is : start_number (plan_of source layout crop target) (length work) ≡ 0
+    pub started_is : start_number (plan_of source layout crop target) (length work) ≡ 0
     started_is = rw full (start_passes source layout target (length pixels) (length out) (length work) goes)
 
-    pub never : (why : Refusal) (r : Started) → started_number r ≡ start_number (plan_of source layout crop target) (length work) → r ≡ started.Refused why → ⊥
-    never why r told e = omega (arith, number_pos why, sym (ap started_number e) ∙ told ∙ started_is)
-
-    module _ (job : Job) (r : Started) (told : started_job (fresh (plan_of source layout crop target)) r ≡ fresh (plan_of source layout crop target)) (e : r ≡ started.Fresh job) (begun : List ℕ) (begun_is : begun ≡ start_work (plan_of source layout crop target) work) where
+    module _ (job : Job) (r : Result Job Refusal) (told : value_or (fresh (plan_of source layout crop target)) r ≡ fresh (plan_of source layout crop target)) (e : r ≡ Ok job) (begun : List ℕ) (begun_is : begun ≡ start_work (plan_of source layout crop target) work) where
       abbrev fits : ResizeFits source target (length pixels) (length out) (length work)
       fits = resize_fits source target (length pixels) (length out) (length work) goes
 
@@ -86,7 +82,7 @@ module _ (source : Dimensions) (layout : PixelLayout) (target : Dimensions) (pix
       both = work_values pixel_lanes target.width
 
       job_is : job ≡ fresh (resize_plan source layout target)
-      job_is = rw full at (sym (ap (started_job (fresh (plan_of source layout crop target))) e) ∙ told)
+      job_is = rw full at (value_of _ r e told)
 
       begun_cleared : begun ≡ cleared (resize_plan source layout target) work
       unfolding start_work

@@ -1,14 +1,14 @@
 -- The end of the job that `resize` drives: with all rows taken the output is the resized picture, the flag its flag, and the work values hold what the last take
 -- leaves: every crop row came in, and the last output row leaves nothing over. Assumes nothing.
-use Prim.Native.Nat.{ℕ, zero, suc, ◌+◌, ◌-◌, ◌*◌, ◌/◌, ◌%◌, ◌^◌, ◌≤◌, ◌<◌, min}
+use Prim.Native.Nat.{ℕ, suc, ◌+◌, ◌-◌, ◌*◌, ◌%◌, ◌≤◌, ◌<◌}
 use mathlib.Core.Path.{◌≡◌, refl, sym, ap, ap₂, ◌∙◌, subst}
 use mathlib.Core.Logic.{◌⊎◌, inl, inr}
-use mathlib.Core.Bool.{Bool, cond}
-use mathlib.Core.List.{List, [], ◌++◌, append-nil, append_assoc}
+use mathlib.Core.Bool.{cond}
+use mathlib.Core.List.{List, ◌++◌, append-nil}
 use native.Mathlib.Omega.{arith}
-use native.Mathlib.Nat.{le_of_mul-le-mul_right, le_trans, zero-add}
+use native.Mathlib.Nat.{le_of_mul-le-mul_right, zero-add}
 use lib.Dec.{leb, eqb}
-use lib.ListN.{length, get_or, take, drop, drop_of_length-le, take-append-drop, length-take, length-drop}
+use lib.ListN.{length, get_or, take, drop, drop_of_length-le, take-append-drop, length-drop}
 use lib.Seq.{get_or-take, get_or-drop, drop-drop, length-take-le}
 use borrow.Author.Tests.{le-leb, lt-leb, eq-eqb, ne_eqb}
 use Rattle.arithmetic.specs.Table.{tabulate}
@@ -17,28 +17,26 @@ use Rattle.arithmetic.proofs.Quotients.{ceil_is}
 use Rattle.arithmetic.proofs.Sums.{sum_none_yet}
 use Rattle.arithmetic.proofs.Tables.{tabulate_is, tabulate_cong}
 use Rattle.arithmetic.specs.Quotient.{ceil}
-use Rattle.arithmetic.specs.Sum.{sum}
 use Rattle.pixels.specs.declared.Dimensions.{Dimensions}
 use Rattle.pixels_layout.specs.declared.PixelLayout.{PixelLayout}
-use Rattle.pixels.specs.Sizes.{pixel_lanes, row_bytes, half_values, work_values, picture_bytes, Fits}
+use Rattle.pixels.specs.Sizes.{row_bytes, half_values, work_values}
 use Rattle.rows_form.specs.Form.{flag_in}
-use Rattle.rows_schedule.specs.Schedule.{used, made, needed, since}
+use Rattle.rows_schedule.specs.Schedule.{used, needed, since}
 use Rattle.rows_schedule.proofs.Crop.{rows_most}
 use Rattle.rows_schedule.proofs.Needed.{needed_le_made, needed_le, down_low, needed_grow}
-use Rattle.rows.specs.Output.{share, rest_down}
+use Rattle.rows.specs.Output.{rest_down}
 use Rattle.rows.specs.WorkRows.{half_of}
 use Rattle.rows.specs.Closed.{newest, share_before, first_half}
 use Rattle.rows_laws.proofs.Held.{Held, share_none}
 use Rattle.rows_laws.proofs.WorkRows.{parity, half_even, half_odd}
 use Rattle.job_rules.specs.declared.Plan.{Plan}
-use Rattle.job_rules.specs.Rules.{lanes_of, form_of, R}
+use Rattle.job_rules.specs.Rules.{lanes_of, form_of}
 use Rattle.job.specs.declared.Job.{Job}
-use Rattle.job.specs.Record.{Rules}
 use Rattle.job_claim.specs.Rows.{rows_of, resize_plan, resized, resized_flag}
 use Rattle.job_claim.proofs.Reading.{crop_value}
 use Rattle.job_resize.specs.Resize.{row_value_at, last_first, last_second, resized_work}
 use Rattle.job_resize.specs.Inner.{Driven}
-use Rattle.job_resize.proofs.Going.{bytes_of, Going, rows_of_length}
+use Rattle.job_resize.proofs.Going.{bytes_of, Going}
 use Rattle.job.specs.Calls.{scale_by}
 
 -- ---- the last output row needs every crop row

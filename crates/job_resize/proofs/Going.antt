@@ -1,7 +1,7 @@
 -- The job that `resize` drives, call after call: what holds of the record, the output and the work values, that an offer and a take keep it, and that one of the
 -- two is always accepted until all rows are taken. Assumes nothing.
-use Prim.Native.Nat.{ℕ, zero, suc, ◌+◌, ◌-◌, ◌*◌, ◌/◌, ◌%◌, ◌≤◌, ◌<◌, min}
-use mathlib.Core.Path.{◌≡◌, refl, sym, ap, ap₂, ◌∙◌}
+use Prim.Native.Nat.{ℕ, zero, suc, ◌+◌, ◌-◌, ◌*◌, ◌≤◌, ◌<◌}
+use mathlib.Core.Path.{◌≡◌, refl, sym, ap, ◌∙◌}
 use mathlib.Core.Logic.{◌⊎◌, inl, inr}
 use mathlib.Core.Bool.{Bool, true, false, ◌||◌}
 use mathlib.Core.List.{List, [], ◌++◌, append_assoc}
@@ -9,7 +9,7 @@ use native.Mathlib.Omega.{arith}
 use native.Mathlib.Nat.{mul-zero, mul-mod_right, mul-pos, mul-sub}
 use native.Mathlib.Numerals.{add-one}
 use lib.ListN.{length, get_or, take, drop, replicate, length-append, length-drop, length-replicate}
-use lib.Seq.{get_or-drop, take_at, drop_at, drop-drop, drop-append-add}
+use lib.Seq.{get_or-drop, take_at, drop_at, drop-drop}
 use Rattle.arithmetic.proofs.Orders.{le_or_lt}
 use Rattle.pixels.specs.Sizes.{row_bytes, half_values, work_values, picture_bytes, Fits}
 use Rattle.rows_form.specs.Form.{flag_in}
@@ -20,7 +20,7 @@ use Rattle.job_rules.specs.declared.Plan.{Plan}
 use Rattle.job_rules.specs.Rules.{lanes_of, form_of, kind_fits, R}
 use Rattle.job.specs.declared.Job.{Job}
 use Rattle.job.specs.Record.{Rules, fresh}
-use Rattle.job.specs.Calls.{scale_by, count, offer_number, offer_job, offer_work, more_accepted, take_number, take_job, take_out, take_work, more_taken, row_taken, work_taken}
+use Rattle.job.specs.Calls.{scale_by, count, offer_number, offer_job, offer_work, take_number, take_job, take_out, take_work, row_taken}
 use Rattle.job.proofs.Views.{WholeRows, OfferWent, offer_went, offer_goes, TakeWent, take_went, take_goes}
 use Rattle.job_start.specs.Start.{cleared}
 use Rattle.job_claim.specs.Rows.{row_of, rows_of}
@@ -29,7 +29,7 @@ use Rattle.job_claim.proofs.Feeding.{Holds, fed_held, fed_length, fed_rest}
 use Rattle.job_claim.proofs.Taking.{row_is, left_holds, left_length, left_rest}
 use Rattle.job_claim.proofs.Flagged.{flag_append, flag_none}
 use Rattle.job_claim.proofs.Whole.{row_of_length}
-use Rattle.job_claim.proofs.Invariant.{count_some, count_most, count_bytes, offer_rules, take_rules}
+use Rattle.job_claim.proofs.Invariant.{count_some, count_bytes, offer_rules, take_rules}
 
 -- the bytes of a picture as a function
 abbrev pub bytes_of : List ℕ → ℕ → ℕ

@@ -1,24 +1,24 @@
 -- A turn of resize's loop: where no row is ready the rows that remain are offered, and then one is; it is taken into its place. Each turn takes one row.
 -- Assumes nothing.
-use Prim.Native.Nat.{ℕ, zero, suc, ◌+◌, ◌-◌, ◌*◌, ◌/◌, ◌%◌, ◌≤◌, ◌<◌, min}
+use Prim.Native.Nat.{ℕ, ◌+◌, ◌-◌, ◌*◌, ◌≤◌, ◌<◌}
 use mathlib.Core.Path.{◌≡◌, refl, sym, ap, ap₂, ◌∙◌, subst}
 use mathlib.Core.Logic.{◌⊎◌, inl, inr}
-use mathlib.Core.Bool.{Bool, true, false, cond}
+use mathlib.Core.Bool.{true, false}
 use mathlib.Core.List.{List, ◌++◌}
 use native.Mathlib.Omega.{arith}
-use native.Mathlib.Nat.{mul-le-mul_left, mul-pos, mul-sub}
+use native.Mathlib.Nat.{mul-le-mul_left, mul-pos}
 use lib.Dec.{eqb}
-use lib.ListN.{length, get_or, take, drop, length-append, length-drop}
+use lib.ListN.{length, take, drop, length-append, length-drop}
 use lib.Seq.{length-take-le, take_all}
 use borrow.Author.Tests.{eq-eqb, ne_eqb}
 use Rattle.arithmetic.proofs.Orders.{le_or_lt}
 use Rattle.arithmetic.proofs.Quotients.{div_is}
-use Rattle.pixels.specs.Sizes.{row_bytes, work_values, picture_bytes}
+use Rattle.pixels.specs.Sizes.{row_bytes}
 use Rattle.rows_schedule.proofs.Crop.{rows_all, rows_most}
 use Rattle.job_rules.specs.declared.Plan.{Plan}
 use Rattle.job_rules.specs.Rules.{lanes_of, R}
 use Rattle.job.specs.declared.Job.{Job}
-use Rattle.job.specs.Record.{Rules, fresh, lawful, ready_of}
+use Rattle.job.specs.Record.{Rules, ready_of}
 use Rattle.job.specs.Calls.{most_rows, count, lent_rows, offer_job, offer_work, take_job, take_out, take_work, more_taken, row_taken}
 use Rattle.job_rules.proofs.Rules.{rules_good}
 use Rattle.job.proofs.Views.{take_went}

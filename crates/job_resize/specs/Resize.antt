@@ -1,14 +1,13 @@
 -- `resize` (SCOPE, "The job"): "a job with the full crop; its work values end as that job's last take leaves them". Its pixels and its flag are
 -- claim's `resized` and `resized_flag`; here are its numbers and its work values. Assumes nothing.
-use Rattle.std.specs.Prelude.{ℕ, zero, suc, ◌+◌, ◌-◌, ◌*◌, ◌/◌, ◌%◌, ◌^◌, Bool, cond, not, List, [], ◌∷◌, ◌++◌, eqb, ltb, leb, length, get_or, drop}
+use Rattle.std.specs.Prelude.{ℕ, ◌-◌, ◌/◌, ◌%◌, Bool, cond, List, [], ◌∷◌, ◌++◌, eqb, leb, length, get_or, drop}
 use Rattle.arithmetic.specs.Table.{tabulate}
 use Rattle.pixels.specs.declared.Dimensions.{Dimensions}
 use Rattle.pixels_layout.specs.declared.PixelLayout.{PixelLayout}
-use Rattle.pixels.specs.declared.Refusal.TheVariants.{PixelBufferMismatch, OutputLength, WorkLength}
+use Rattle.pixels.specs.declared.Refusal.TheVariants.{PixelBufferMismatch, OutputLength}
 use Rattle.pixels.specs.Refusals.{Cause, first, other_length, few_work, flag_if, buffer_if}
 use Rattle.pixels.specs.Sizes.{pixel_lanes, half_values, work_values, picture_bytes, sizes_causes}
 use Rattle.rows.specs.Column.{value}
-use Rattle.rows.specs.WorkRows.{half_of}
 use Rattle.rows.specs.Closed.{newest}
 use Rattle.job_rules.specs.declared.Plan.{Plan}
 use Rattle.job_rules.specs.Rules.{lanes_of}

@@ -2,39 +2,19 @@
 #![tactic(auto)]
 
 ghost use Rattle.std.specs.Prelude.{◌≡◌, ◌+◌, ◌*◌, ◌≤◌, length, take, drop};
-ghost use Rattle.pixels.specs.Refusals.{checked_number, flagged_number, flagged_flag};
+ghost use Rattle.pixels.specs.Refusals.{answer_number, flagged_flag};
 ghost use Rattle.pixels.specs.Sizes.{row_bytes};
 ghost use Rattle.job_rules.specs.Rules.{lanes_of};
-ghost use Rattle.job.specs.Answers.{offered_job, taken_job};
 ghost use Rattle.job.specs.Calls.{take_job, take_work};
 ghost use Rattle.job_resize.specs.Resize.{resize_number, resize_flag, resize_out, resize_work};
 ghost use Rattle.job_resize.specs.Inner.{emitted_out, Asked, Driven, fed_job, fed_work};
 
-use job::{Job, Offered, Taken};
+use job::Job;
 use job_rules::row_bytes;
-use job_start::{Started, start};
-use pixels::{Checked, Dimensions, Flagged, PIXEL_LANES, Rect, Refusal};
+use job_start::start;
+use pixels::{Dimensions, PIXEL_LANES, Rect, Refusal};
 use pixels_layout::PixelLayout;
 use pixels_sizes::{check_sizes, wrong_length};
-
-// The next record of an answer, whichever it is.
-fn after_offer(answer: Offered) -> Job
-    ensures { result ≡ offered_job answer }
-{
-    match answer {
-        Offered::Accepted { rows: _, job } => job,
-        Offered::Refused { why: _, job } => job,
-    }
-}
-
-fn after_take(answer: Taken) -> Job
-    ensures { result ≡ taken_job answer }
-{
-    match answer {
-        Taken::Wrote { job } => job,
-        Taken::Refused { why: _, job } => job,
-    }
-}
 
 // Where no row is ready, offers all the rows that remain.
 fn feed(job: Job, pixels: &[u8], work: &mut [u32]) -> Job
@@ -46,7 +26,7 @@ fn feed(job: Job, pixels: &[u8], work: &mut [u32]) -> Job
         return job;
     }
     let at = row_bytes(job.plan, job.plan.source.width) * job.accepted as usize;
-    after_offer(job.offer(&pixels[at..], work))
+    job.offer(&pixels[at..], work).next
 }
 
 // Takes the next row into its place of the output.
@@ -58,7 +38,7 @@ fn emit(job: Job, out: &mut [u8], work: &mut [u32]) -> Job
 {
     let size = row_bytes(job.plan, job.plan.target.width);
     let at = size * job.taken as usize;
-    after_take(job.take(&mut out[at..at + size], work))
+    job.take(&mut out[at..at + size], work).next
 }
 
 // Drives a fresh job to its end. The Rust: rescale_plane.
@@ -81,27 +61,21 @@ fn check_resize(
     pixels: usize,
     out: usize,
     work: usize,
-) -> Checked
-    ensures { checked_number result ≡ resize_number source target pixels out work }
+) -> Result<(), Refusal>
+    ensures { answer_number result ≡ resize_number source target pixels out work }
 {
     let crop = Rect::new(0, 0, source.width, source.height);
-    let checked = check_sizes(source, crop, target);
-    match checked {
-        Checked::Refused(why) => {
-            return Checked::Refused(why);
-        }
-        Checked::Fit => {}
-    }
+    check_sizes(source, crop, target)?;
     if wrong_length(pixels, source) {
-        return Checked::Refused(Refusal::PixelBufferMismatch);
+        return Err(Refusal::PixelBufferMismatch);
     }
     if wrong_length(out, target) {
-        return Checked::Refused(Refusal::OutputLength);
+        return Err(Refusal::OutputLength);
     }
     if work < 2 * PIXEL_LANES * target.width as usize {
-        return Checked::Refused(Refusal::WorkLength);
+        return Err(Refusal::WorkLength);
     }
-    Checked::Fit
+    Ok(())
 }
 
 // A picture scaled to the target's size; returns its alpha flag. The Rust: Image::resize.
@@ -114,26 +88,15 @@ pub fn resize(
     pixels: &[u8],
     out: &mut [u8],
     work: &mut [u32],
-) -> Flagged
-    ensures number { flagged_number result ≡ resize_number source target (length pixels.now) (length out.old) (length work.old) }
+) -> Result<bool, Refusal>
+    ensures number { answer_number result ≡ resize_number source target (length pixels.now) (length out.old) (length work.old) }
     ensures flag { flagged_flag result ≡ resize_flag source layout target pixels.now (length out.old) (length work.old) }
     ensures out { out.new ≡ resize_out source layout target pixels.now out.old (length work.old) }
     ensures work { work.new ≡ resize_work source layout target pixels.now (length out.old) work.old }
 {
-    let checked = check_resize(source, target, pixels.len(), out.len(), work.len());
-    match checked {
-        Checked::Refused(why) => {
-            return Flagged::Refused(why);
-        }
-        Checked::Fit => {}
-    }
+    check_resize(source, target, pixels.len(), out.len(), work.len())?;
     let crop = Rect::new(0, 0, source.width, source.height);
-    let started = start(source, layout, crop, target, work);
-    match started {
-        Started::Refused { why } => Flagged::Refused(why),
-        Started::Fresh { job } => {
-            let last = drive(job, pixels, out, work);
-            Flagged::Flag(last.flag)
-        }
-    }
+    let job = start(source, layout, crop, target, work).unwrap();
+    let last = drive(job, pixels, out, work);
+    Ok(last.flag)
 }

@@ -15,6 +15,10 @@ use Rattle.rows_form.specs.Form.{lanes_in, flag_in}
 use Rattle.job_rules.specs.declared.Kind.{Kind}
 use Rattle.job_rules.specs.declared.Kind.TheVariants.{Picture, Plane}
 use Rattle.job_rules.specs.declared.Plan.{Plan}
+use denote.Enum.Bare.{sameb}
+use Rattle.job_rules.specs.contracts.Kind.{the_type as kind_type}
+use Rattle.pixels_layout.specs.contracts.PixelLayout.{the_type as layout_type}
+use Rattle.pixels_layout.specs.declared.PixelLayout.TheVariants.{Rgba8, Argb8, Bgra8}
 use Rattle.job_rules.specs.Rules.{is_rgba, form_by, kind_fits, Formed}
 
 module _ (layout : PixelLayout) (lanes : ℕ) (f : Bool) where
@@ -71,3 +75,17 @@ module _ (kind : Kind) (layout : PixelLayout) (lanes : ℕ) (f : Bool) where
       pub of_plane : bad_lanes lanes ≡ false → not f ≡ kind_fits kind layout lanes f
       unfolding kind_fits
       of_plane e = rw plane (simp (rgba, e))
+
+-- ---- what the derived comparisons tell
+pub is_picture : (kind : Kind) → true ≡ sameb kind_type kind Picture → kind ≡ Picture
+is_picture Picture e = refl
+is_picture Plane e = cc
+
+pub is_plane : (kind : Kind) → false ≡ sameb kind_type kind Picture → kind ≡ Plane
+is_plane Picture e = cc
+is_plane Plane e = refl
+
+pub rgba_told : (layout : PixelLayout) {b : Bool} → b ≡ not (sameb layout_type layout Rgba8) → is_rgba layout ≡ not b
+rgba_told Rgba8 e = rw e refl
+rgba_told Argb8 e = rw e refl
+rgba_told Bgra8 e = rw e refl

@@ -1,13 +1,13 @@
 -- The record rules: the test and the facts say the same, both ways; the test as the code makes it. Assumes nothing.
 use Prim.Native.Nat.{ℕ, zero, suc}
 use mathlib.Core.Path.{◌≡◌, refl, sym, ◌∙◌}
-use mathlib.Core.Bool.{Bool, true, false, not, ◌||◌, ◌&&◌, or-true, or-false, true≢false}
+use mathlib.Core.Bool.{Bool, true, false, not, ◌||◌, or-true, or-false, true≢false}
 use native.Mathlib.Omega.{arith}
 use lib.Dec.{eqb}
 use borrow.Author.Tests.{eq-eqb, ne_eqb, eqb-true}
 use Rattle.pixels.specs.declared.Refusal.{Refusal}
 use Rattle.pixels.specs.Refusals.{number}
-use Rattle.pixels.specs.Sizes.{sizes_number, Fits}
+use Rattle.pixels.specs.Sizes.{sizes_number}
 use Rattle.pixels.proofs.Fitting.{fits_of, fits_good}
 use Rattle.pixels.proofs.Truths.{both_true, not_true, not_false}
 use Rattle.pixels.proofs.Numbers.{not_zero}

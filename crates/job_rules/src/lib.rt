@@ -3,18 +3,18 @@
 #![tactic(auto)]
 
 ghost use Rattle.std.specs.Prelude.{◌≡◌, ltb};
-ghost use Rattle.pixels.specs.Refusals.{checked_number};
+ghost use Rattle.pixels.specs.Refusals.{answer_number};
 ghost use Rattle.pixels.specs.Sizes.{row_bytes, work_values};
 ghost use Rattle.job_rules.specs.Rules.{lanes_of, form_of, kind_fits, R, lawful_of, start_number, offer_number_of, take_number_of};
 
-use pixels::{Checked, Dimensions, PIXEL_LANES, Rect, Refusal};
+use pixels::{Dimensions, PIXEL_LANES, Rect, Refusal};
 use pixels_layout::PixelLayout;
 use pixels_sizes::{bad_lanes, check_sizes, crop_beyond, wrong_sizes};
 use rows_form::RowForm;
 use rows_schedule::{counts_fit, rows_by};
 
 // What a job scales: a picture's pixels, matted and restored, or a plane's lanes as they are.
-#[derive(Clone, Copy)]
+#[derive(Clone, Copy, PartialEq, Eq)]
 pub enum Kind {
     Picture,
     Plane,
@@ -48,21 +48,22 @@ fn short_work(p: Plan, n: usize) -> bool
     n / 2 < row_bytes(p, p.target.width)
 }
 
-// R(k). A row is ready while it is above the rows taken: the Rust's Rescaler::has_pending_output, there by an accumulator.
-fn made(p: Plan, accepted: u32) -> u64
-    ensures { result ≡ R p accepted }
-{
-    rows_by(p.crop.y, p.crop.height, p.target.height, accepted)
+impl Plan {
+    // R(k). A row is ready while it is above the rows taken: the Rust's Rescaler::has_pending_output, there by an accumulator.
+    // Rules out: the rows of the whole source; the crop and the target height exchanged.
+    pub fn made(self, accepted: u32) -> u64
+        ensures { result ≡ R self accepted }
+    {
+        rows_by(self.crop.y, self.crop.height, self.target.height, accepted)
+    }
 }
 
 // What the bytes of a job's rows are. Rules out: a plane's rows matted; lanes of a plane counted as four.
 pub fn row_form(p: Plan) -> RowForm
     ensures { result ≡ form_of p }
 {
-    let kind = p.kind;
-    let layout = p.layout;
-    match kind {
-        Kind::Picture => RowForm::Pixels(layout),
+    match p.kind {
+        Kind::Picture => RowForm::Pixels(p.layout),
         Kind::Plane => RowForm::Plain(p.lanes),
     }
 }
@@ -73,23 +74,12 @@ pub fn row_form(p: Plan) -> RowForm
 fn kind_fits(p: Plan, flag: bool) -> bool
     ensures { result ≡ kind_fits p.kind p.layout p.lanes flag }
 {
-    let kind = p.kind;
-    let layout = p.layout;
     let lanes = p.lanes;
-    match kind {
-        Kind::Picture => {
-            return lanes == PIXEL_LANES as u32;
-        }
-        Kind::Plane => {}
+    if p.kind == Kind::Picture {
+        return lanes == PIXEL_LANES as u32;
     }
-    match layout {
-        PixelLayout::Rgba8 => {}
-        PixelLayout::Argb8 => {
-            return false;
-        }
-        PixelLayout::Bgra8 => {
-            return false;
-        }
+    if p.layout != PixelLayout::Rgba8 {
+        return false;
     }
     if bad_lanes(lanes) {
         return false;
@@ -102,12 +92,8 @@ fn kind_fits(p: Plan, flag: bool) -> bool
 pub fn check_rules(p: Plan, accepted: u32, taken: u32, flag: bool) -> bool
     ensures { result ≡ lawful_of p accepted taken flag }
 {
-    let sizes = check_sizes(p.source, p.crop, p.target);
-    match sizes {
-        Checked::Refused(_) => {
-            return false;
-        }
-        Checked::Fit => {}
+    if check_sizes(p.source, p.crop, p.target).is_err() {
+        return false;
     }
     if !counts_fit(
         p.crop.y,
@@ -131,22 +117,22 @@ pub fn check_rules(p: Plan, accepted: u32, taken: u32, flag: bool) -> bool
 // ---- the tests of each call, in their order
 
 // Those of a start. Rules out: every start refused; work values for one half alone; 5 told where 1 is owed; 2 told before 10; five lanes let pass.
-pub fn check_start(p: Plan, work: usize) -> Checked
-    ensures { checked_number result ≡ start_number p work }
+pub fn check_start(p: Plan, work: usize) -> Result<(), Refusal>
+    ensures { answer_number result ≡ start_number p work }
 {
     if wrong_sizes(p.source, p.crop, p.target) {
-        return Checked::Refused(Refusal::InvalidDimensions);
+        return Err(Refusal::InvalidDimensions);
     }
     if bad_lanes(p.lanes) {
-        return Checked::Refused(Refusal::InvalidLanes);
+        return Err(Refusal::InvalidLanes);
     }
     if crop_beyond(p.crop, p.source) {
-        return Checked::Refused(Refusal::CropOutOfBounds);
+        return Err(Refusal::CropOutOfBounds);
     }
     if short_work(p, work) {
-        return Checked::Refused(Refusal::WorkLength);
+        return Err(Refusal::WorkLength);
     }
-    Checked::Fit
+    Ok(())
 }
 
 // Those of an offer, of the bytes lent and the work values. Rules out: every offer of rows refused; 7 and 8 exchanged; 8 told once as many rows as the crop has are
@@ -158,28 +144,28 @@ pub fn check_offer(
     flag: bool,
     bytes: usize,
     work: usize,
-) -> Checked
-    ensures { checked_number result ≡ offer_number_of p accepted taken flag bytes work }
+) -> Result<(), Refusal>
+    ensures { answer_number result ≡ offer_number_of p accepted taken flag bytes work }
 {
     if !check_rules(p, accepted, taken, flag) {
-        return Checked::Refused(Refusal::InvalidRecord);
+        return Err(Refusal::InvalidRecord);
     }
     if bytes == 0 {
-        return Checked::Refused(Refusal::PixelBufferMismatch);
+        return Err(Refusal::PixelBufferMismatch);
     }
     if bytes % row_bytes(p, p.source.width) != 0 {
-        return Checked::Refused(Refusal::PixelBufferMismatch);
+        return Err(Refusal::PixelBufferMismatch);
     }
     if short_work(p, work) {
-        return Checked::Refused(Refusal::WorkLength);
+        return Err(Refusal::WorkLength);
     }
-    if (taken as u64) < made(p, accepted) {
-        return Checked::Refused(Refusal::RowReady);
+    if (taken as u64) < p.made(accepted) {
+        return Err(Refusal::RowReady);
     }
     if p.source.height <= accepted {
-        return Checked::Refused(Refusal::AllAccepted);
+        return Err(Refusal::AllAccepted);
     }
-    Checked::Fit
+    Ok(())
 }
 
 // Those of a take, of the bytes of output and the work values. Rules out: every take into a row of the exact length refused; 5 told for an output of another length;
@@ -191,20 +177,20 @@ pub fn check_take(
     flag: bool,
     bytes: usize,
     work: usize,
-) -> Checked
-    ensures { checked_number result ≡ take_number_of p accepted taken flag bytes work }
+) -> Result<(), Refusal>
+    ensures { answer_number result ≡ take_number_of p accepted taken flag bytes work }
 {
     if !check_rules(p, accepted, taken, flag) {
-        return Checked::Refused(Refusal::InvalidRecord);
+        return Err(Refusal::InvalidRecord);
     }
     if bytes != row_bytes(p, p.target.width) {
-        return Checked::Refused(Refusal::OutputLength);
+        return Err(Refusal::OutputLength);
     }
     if short_work(p, work) {
-        return Checked::Refused(Refusal::WorkLength);
+        return Err(Refusal::WorkLength);
     }
-    if made(p, accepted) <= taken as u64 {
-        return Checked::Refused(Refusal::NoneReady);
+    if p.made(accepted) <= taken as u64 {
+        return Err(Refusal::NoneReady);
     }
-    Checked::Fit
+    Ok(())
 }

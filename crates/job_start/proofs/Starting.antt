@@ -1,8 +1,9 @@
 -- A start: what its number says, and its answer as the contract states it. Assumes nothing.
 use Prim.Native.Nat.{ℕ, ◌≤◌}
-use mathlib.Core.Path.{◌≡◌, refl, sym, ◌∙◌}
+use mathlib.Core.Path.{◌≡◌, refl, sym, ap, ◌∙◌}
 use mathlib.Core.List.{List, ◌++◌}
-use lib.ListN.{length, drop, replicate}
+use lib.ListN.{length, take, drop, replicate}
+use lib.Seq.{length-take-le}
 use borrow.Author.Tests.{eq-eqb}
 use Rattle.pixels.specs.declared.Refusal.{Refusal}
 use Rattle.pixels.specs.Refusals.{number}
@@ -44,3 +45,7 @@ module _ (p : Plan) (work : List ℕ) where
       → (0 ≡ start_number p (length work)) × ((fresh p ≡ fresh p) × (next ≡ start_work p work))
   unfolding start_work
   start_goes z n next en e = (sym z, (refl, e ∙ rw en (simp (eq-eqb _ 0 z))))
+
+-- the first n values filled with 0
+pub filled : (n : ℕ) (work part : List ℕ) → n ≤ length work → part ≡ replicate (length (take n work)) 0 → part ++ drop n work ≡ replicate n 0 ++ drop n work
+filled n work part room e = ap (λ (t : List ℕ). t ++ drop n work) (e ∙ rw (length-take-le n work room) refl)

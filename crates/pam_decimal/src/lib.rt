@@ -9,22 +9,17 @@ use pam_parts::tail_of;
 use pam_put::put;
 
 // How many digits there are. Rules out: one digit for 10; three for 1000.
+#[tactic(auto, using(crate::proofs::Decimals::one_is, crate::proofs::Decimals::two_is, crate::proofs::Decimals::three_is, crate::proofs::Decimals::four_is, crate::proofs::Decimals::five_is))]
 pub fn digits_of(n: u32) -> usize
     ensures { result ≡ length (decimal_of n) }
 {
-    if n < 10 {
-        return 1;
+    match n {
+        0..10 => 1,
+        10..100 => 2,
+        100..1000 => 3,
+        1000..10000 => 4,
+        _ => 5,
     }
-    if n < 100 {
-        return 2;
-    }
-    if n < 1000 {
-        return 3;
-    }
-    if n < 10000 {
-        return 4;
-    }
-    5
 }
 
 fn digit_at(n: u32, p: u32) -> u8
@@ -36,6 +31,7 @@ fn digit_at(n: u32, p: u32) -> u8
 
 // Puts the digits into the buffer from the place on, the first that counts first; leaves the buffer as it was where they do not fit.
 // Rules out: tens and ones exchanged; the hundreds at the place of tens.
+#[tactic(auto, using(crate::proofs::Decimals::some_digits, crate::proofs::Decimals::last_of))]
 pub fn put_decimal(out: &mut [u8], place: usize, n: u32)
     ensures { out.new ≡ put_at out.old place (decimal_of n) }
 {

@@ -1,5 +1,5 @@
 -- A header read line by line: what holds before each line, and each way out. Assumes nothing.
-use Prim.Native.Nat.{ℕ, suc, ◌+◌, ◌-◌, ◌≤◌, ◌<◌}
+use Prim.Native.Nat.{ℕ, suc, ◌+◌, ◌≤◌, ◌<◌}
 use mathlib.Core.Path.{◌≡◌, refl, sym, ◌∙◌, ap, ap₂}
 use mathlib.Core.Bool.{Bool, true, false, not, cond, ◌&&◌, ◌||◌, or-true, and-false}
 use mathlib.Core.Logic.{inl, inr}
@@ -24,22 +24,24 @@ use Rattle.pam_line.specs.Line.{text_p7, says}
 use Rattle.pam_line.specs.Inner.{held}
 use Rattle.pam_seen.specs.declared.Seen.{Seen}
 use Rattle.pam_seen.specs.Inner.{at, unread, after_line}
-use Rattle.pam_header.specs.declared.PamHeader.{PamHeader}
-use Rattle.pam_header.specs.declared.PamHeader.TheVariants.{Refused, Unfinished}
-use Rattle.pam_header.specs.Header.{lines, opens, others, is_end, ends, before_end, end_bytes, strays, given, types, once, few, the, keys_fail, header, malformed, unsupported, size_said, header_causes, header_number, header_size, header_start, header_unfinished, first_bytes, pixels_from, start_if, answer_number, answer_size, answer_start, answer_unfinished}
-use Rattle.pam_header.specs.Inner.{key_missing, other_kind, verdict_causes, verdict_number, verdict_size, verdict_start, size_held}
+use Rattle.pam_seen.specs.declared.Types.{Types}
+use Rattle.std.proofs.Common.{Option, None, Ok, Err, is_none}
+use Rattle.pam_seen.specs.declared.State.TheVariants as state
+use Rattle.pam_header.specs.Header.{lines, opens, others, is_end, ends, before_end, end_bytes, strays, given, types, once, few, the, keys_fail, header, malformed, unsupported, size_said, header_causes, header_number, header_size, header_start, header_unfinished, first_bytes, pixels_from, start_if, Answer, answer_number, answer_size, answer_start, answer_unfinished}
+use Rattle.pam_header.specs.Inner.{key_missing, number_held, is_rgb_alpha, other_kind, verdict_causes, verdict_number, verdict_size, verdict_start, size_held}
 use Rattle.pam_header.proofs.Lines.{lines_split, lines_none}
 use Rattle.pam_header.proofs.Parts.{ends_append, bytes, bytes_append, before_past, bytes_past}
-use Rattle.pam_header.proofs.Standing.{Standing, Bad, code, type_code, at_stated, standing_first, standing_next, standing_bad, standing_end, standing_state}
-use Rattle.pam_header.proofs.Verdicts.{once_code, the_code, kind_code, side_code, side_held}
+use Rattle.pam_header.proofs.Standing.{Standing, Bad, code, type_code, at_stated, standing_first, standing_next, standing_bad, standing_end}
+use Rattle.pam_header.proofs.Verdicts.{Verdict, once_code, the_code, kind_code, side_code, side_held}
 
 -- the answer r is that of the text
-abbrev pub Told : List ℕ → PamHeader → Type 0
-Told s r =
-    (answer_number r ≡ header_number s)
-    × ((answer_size r ≡ header_size s)
-    × ((answer_start r ≡ header_start s)
-    × (answer_unfinished r ≡ header_unfinished s)))
+abbrev pub Told : List ℕ → Answer → Type 0
+Told s r = record {
+  number : answer_number r ≡ header_number s;
+  size : answer_size r ≡ header_size s;
+  start : answer_start r ≡ header_start s;
+  unfinished : answer_unfinished r ≡ header_unfinished s;
+}
 
 -- ---- outside the form
 module _ (s : List ℕ) (bad : malformed s ≡ true) where
@@ -47,15 +49,17 @@ module _ (s : List ℕ) (bad : malformed s ≡ true) where
   unfolding header_number
   eleven = first_at (header_causes s) 0 tt bad
 
-  told_malformed : header_unfinished s ≡ false → Told s (Refused PamMalformed)
+  none_there : (no_size ≡ header_size s) × (0 ≡ header_start s)
   unfolding header_size header_start
-  told_malformed e = (sym eleven, (simp (not_zero PamMalformed (header_number s) eleven), (simp (not_zero PamMalformed (header_number s) eleven), sym e)))
+  none_there = (simp (not_zero PamMalformed (header_number s) eleven), simp (not_zero PamMalformed (header_number s) eleven))
 
-  told_unfinished : header_unfinished s ≡ true → Told s Unfinished
-  unfolding header_size header_start
-  told_unfinished e = (sym eleven, (simp (not_zero PamMalformed (header_number s) eleven), (simp (not_zero PamMalformed (header_number s) eleven), sym e)))
+  told_malformed : header_unfinished s ≡ false → Told s (Err PamMalformed)
+  told_malformed e = record { number = sym eleven; size = none_there.0; start = none_there.1; unfinished = sym e }
 
-not_opened : (s : List ℕ) → opens (lines s) ≡ false → Told s (Refused PamMalformed)
+  told_unfinished : header_unfinished s ≡ true → Told s (Ok None)
+  told_unfinished e = record { number = sym eleven; size = none_there.0; start = none_there.1; unfinished = sym e }
+
+not_opened : (s : List ℕ) → opens (lines s) ≡ false → Told s (Err PamMalformed)
 unfolding malformed header_unfinished
 not_opened s e = told_malformed s (simp e) (simp e)
 
@@ -95,7 +99,7 @@ pub record Going (s : List ℕ) (t : Seen) (start : ℕ) : Type 0 where
 
 -- the first line, over what the calls gave
 module _ (s : List ℕ) (f : ℕ) (ef : f ≡ run_length Inside s) where
-  pub begin_none : length s ≤ f → Told s (Refused PamMalformed)
+  pub begin_none : length s ≤ f → Told s (Err PamMalformed)
   begin_none h = not_opened s (ap opens (lines_none s (omega (arith, ef, h))))
 
   module _ (top : List ℕ) (et : top ≡ take f s) (h : f < length s) where
@@ -104,7 +108,7 @@ module _ (s : List ℕ) (f : ℕ) (ef : f ≡ run_length Inside s) where
         lines_split s (omega (arith, ef, h))
         ∙ ap₂ (λ (l r : List ℕ). l ∷ lines r) (ap (λ (k : ℕ). take k s) (sym ef) ∙ sym et) (ap (λ (k : ℕ). drop k s) (sym (add-one (run_length Inside s)) ∙ ap (λ (k : ℕ). k + 1) (sym ef)))
 
-    pub begin_other : same_text top text_p7 ≡ false → Told s (Refused PamMalformed)
+    pub begin_other : same_text top text_p7 ≡ false → Told s (Err PamMalformed)
     begin_other e = not_opened s (ap opens split ∙ e)
 
     pub begin : same_text top text_p7 ≡ true → Going s unread (f + 1)
@@ -132,7 +136,7 @@ module _ {s : List ℕ} {t : Seen} {start : ℕ} (g : Going s t start) (tail : L
         let each : (key : Key) → few (given key g.past) ≡ true = λ key. few_of (given key g.past) (g.standing.each key) in
         simp (each Width, each Height, each Depth, each Maxval)
 
-    pub turn_none : Told s Unfinished
+    pub turn_none : Told s (Ok None)
     unfolding malformed header_unfinished
     turn_none =
         let open-end : ends (others (lines s)) ≡ false = ap ends all_read ∙ g.standing.no_end in
@@ -159,7 +163,7 @@ module _ {s : List ℕ} {t : Seen} {start : ℕ} (g : Going s t start) (tail : L
     long : length line ≡ m
     long = ap length el ∙ length-take-le m tail (omega (arith, h))
 
-    pub turn_bad : u.state ≡ 2 → Told s (Refused PamMalformed)
+    pub turn_bad : u.state ≡ state.Outside → Told s (Err PamMalformed)
     unfolding malformed header_unfinished before_end
     turn_bad e =
         let (no_end, bad) = standing_bad g.standing line u eu e in
@@ -168,21 +172,20 @@ module _ {s : List ℕ} {t : Seen} {start : ℕ} (g : Going s t start) (tail : L
         let never : (not (strays (others (lines s))) && not (keys_fail few (others (lines s)))) ≡ false = ap (λ (ls : List (List ℕ)). not (strays ls) && not (keys_fail few ls)) goes ∙ bad_few (g.past ++ (line ∷ rest)) (bad rest) in
         told_malformed s (simp (wrong, or-true)) (simp (never, and-false))
 
-    pub turn_on : (u.state ≡ 2 → ⊥) → (u.state ≡ 1 → ⊥) → Going s u (start + m + 1)
+    pub turn_on : u.state ≡ state.GoesOn → Going s u (start + m + 1)
     unfolding bytes
-    turn_on two one =
-        let zero : u.state ≡ 0 = omega (arith, two, one, standing_state g.standing line u eu) in
+    turn_on e =
         record {
           within = turn_fits h;
           opened = g.opened;
           past = g.past ++ (line ∷ []);
           whole = goes ∙ sym (append_assoc g.past (line ∷ []) rest);
           begins = omega (arith, g.begins, long, bytes_append g.past (line ∷ []));
-          standing = standing_next g.standing line u eu zero;
+          standing = standing_next g.standing line u eu e;
         }
 
     -- ---- the last line
-    module _ (e : u.state ≡ 1) where
+    module _ (e : u.state ≡ state.Ended) where
       is_end_lem : is_end (says line) ≡ true
       is_end_lem = (standing_end g.standing line u eu e).0
 
@@ -204,7 +207,7 @@ module _ {s : List ℕ} {t : Seen} {start : ℕ} (g : Going s t start) (tail : L
       key_held : (key : Key) → at u key ≡ code (given key (header s))
       key_held key =
           ap (λ (x : Seen). at x key) (standing_end g.standing line u eu e).1
-          ∙ at_stated t 1 key
+          ∙ at_stated t state.Ended key
           ∙ g.standing.keys key
           ∙ ap (λ (ls : List (List ℕ)). code (given key ls)) (sym lead_all)
 
@@ -214,10 +217,10 @@ module _ {s : List ℕ} {t : Seen} {start : ℕ} (g : Going s t start) (tail : L
           ∙ g.standing.kinds
           ∙ ap (λ (ls : List (List ℕ)). type_code (types ls)) (sym lead_all)
 
-      key_missing_lem : (key : Key) → not (once (given key (header s))) ≡ eqb (at u key) 0
+      key_missing_lem : (key : Key) → not (once (given key (header s))) ≡ is_none (at u key)
       key_missing_lem key =
           let one : length (given key (header s)) ≤ 1 = rw lead_all (g.standing.each key) in
-          once_code (given key (header s)) one ∙ ap (λ (n : ℕ). eqb n 0) (sym (key_held key))
+          once_code (given key (header s)) one ∙ ap is_none (sym (key_held key))
 
       missing_is : malformed s ≡ key_missing u
       unfolding malformed
@@ -229,13 +232,13 @@ module _ {s : List ℕ} {t : Seen} {start : ℕ} (g : Going s t start) (tail : L
       kind_is : unsupported s ≡ other_kind u
       unfolding unsupported
       kind_is =
-          let depth = the_code 4 (given Depth (header s)) (omega arith) (omega arith) ∙ ap (λ (n : ℕ). eqb n 5) (sym (key_held Depth)) in
-          let maxval = the_code 255 (given Maxval (header s)) (omega arith) (omega arith) ∙ ap (λ (n : ℕ). eqb n 256) (sym (key_held Maxval)) in
-          let kind = kind_code (types (header s)) ∙ ap (λ (n : ℕ). not (eqb n 1)) (sym kinds_held) in
+          let depth = the_code 4 (given Depth (header s)) (omega arith) ∙ ap (λ (n : Option ℕ). eqb (number_held n) 4) (sym (key_held Depth)) in
+          let maxval = the_code 255 (given Maxval (header s)) (omega arith) ∙ ap (λ (n : Option ℕ). eqb (number_held n) 255) (sym (key_held Maxval)) in
+          let kind = kind_code (types (header s)) ∙ ap (λ (k : Types). not (is_rgb_alpha k)) (sym kinds_held) in
           ap₂ ◌||◌ (ap not depth) (ap₂ ◌||◌ (ap not maxval) kind)
 
-      side_is : (key : Key) → bad_side (the (given key (header s))) ≡ bad_side (at u key - 1)
-      side_is key = side_code (given key (header s)) ∙ ap (λ (n : ℕ). bad_side (n - 1)) (sym (key_held key))
+      side_is : (key : Key) → bad_side (the (given key (header s))) ≡ bad_side (number_held (at u key))
+      side_is key = side_code (given key (header s)) ∙ ap (λ (n : Option ℕ). bad_side (number_held n)) (sym (key_held key))
 
       size_is : bad_size (size_said s) ≡ bad_size (size_held u)
       unfolding bad_size
@@ -245,25 +248,23 @@ module _ {s : List ℕ} {t : Seen} {start : ℕ} (g : Going s t start) (tail : L
       unfolding header_number verdict_number
       number_is = rw missing_is (rw kind_is (rw size_is refl))
 
-      side_true : (key : Key) → bad_side (at u key - 1) ≡ false → at u key - 1 ≡ the (given key (header s))
+      side_true : (key : Key) → bad_side (number_held (at u key)) ≡ false → number_held (at u key) ≡ the (given key (header s))
       side_true key f =
-          let held-side : bad_side (code (given key (header s)) - 1) ≡ false = ap (λ (n : ℕ). bad_side (n - 1)) (sym (key_held key)) ∙ f in
-          ap (λ (n : ℕ). n - 1) (key_held key) ∙ side_held (given key (header s)) held-side
+          let held-side : bad_side (number_held (code (given key (header s)))) ≡ false = ap (λ (n : Option ℕ). bad_side (number_held n)) (sym (key_held key)) ∙ f in
+          ap number_held (key_held key) ∙ side_held (given key (header s)) held-side
 
       size_by : (x : Bool) → eqb (verdict_number u) 0 ≡ x → cond x (size_held u) no_size ≡ cond x (size_said s) no_size
       unfolding verdict_number bad_size
       size_by false f = refl
       size_by true f =
           let p = none_applies (verdict_causes u) (eqb-true (verdict_number u) 0 f) in
-          let (w, h) = neither_true (bad_side (u.width - 1)) (bad_side (u.height - 1)) p.1.1.0 in
+          let (w, h) = neither_true (bad_side (number_held u.width)) (bad_side (number_held u.height)) p.1.1.0 in
           ap₂ size_of (side_true Width w) (side_true Height h)
 
-      pub turn_end :
-          (r : PamHeader) → (answer_number r ≡ verdict_number u) × ((answer_size r ≡ verdict_size u) × ((answer_start r ≡ verdict_start u (start + m + 1)) × (answer_unfinished r ≡ false)))
-          → Told s r
+      pub turn_end : (r : Answer) → Verdict u (start + m + 1) r → Told s r
       unfolding header_size header_start header_unfinished verdict_size verdict_start
-      turn_end r (n, (d, (a, f))) =
+      turn_end r v =
           let sized = size_by (eqb (verdict_number u) 0) refl ∙ ap (λ (k : ℕ). size_if k (size_said s)) (sym number_is) in
           let placed = ap₂ start_if (sym number_is) (sym from) in
           let over : header_unfinished s ≡ false = simp (g.opened, ended) in
-          (n ∙ sym number_is, (d ∙ sized, (a ∙ placed, f ∙ sym over)))
+          record { number = v.number ∙ sym number_is; size = v.size ∙ sized; start = v.start ∙ placed; unfinished = v.unfinished ∙ sym over }

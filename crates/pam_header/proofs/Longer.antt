@@ -111,7 +111,7 @@ module _ (s t : List ℕ) (some : lines s ≡ [] → ⊥) (no_end : ends (others
   unfolding malformed
   stays_outside = simp (no_end, or-true)
 
--- an end in itself: an answer other than `Unfinished` to a beginning that holds the first line is the answer to the whole input
+-- an end in itself: an answer other than `Ok None` to a beginning that holds the first line is the answer to the whole input
 pub settled : (s t : List ℕ) → (lines s ≡ [] → ⊥) → header_unfinished s ≡ false → (header_number (s ++ t) ≡ header_number s) × ((header_size (s ++ t) ≡ header_size s) × (header_start (s ++ t) ≡ header_start s))
 settled s t some u = by (test (ends (others (lines s))))
   where

@@ -1,6 +1,7 @@
 -- What a PAM header says: its lines, the numbers 11, 12 and 1, the size, and where the pixels begin. Assumes nothing.
-use Rattle.std.specs.Prelude.{ℕ, ◌+◌, Bool, true, false, not, cond, ◌&&◌, ◌||◌, List, [], ◌∷◌, ◌++◌, eqb, length}
+use Rattle.std.specs.Prelude.{ℕ, ◌+◌, Bool, true, false, not, cond, ◌&&◌, ◌||◌, List, [], ◌∷◌, ◌++◌, eqb, length, Option, Some, None, Result, Ok, Err}
 use Rattle.pixels.specs.declared.Dimensions.{Dimensions}
+use Rattle.pixels.specs.declared.Refusal.{Refusal}
 use Rattle.pixels.specs.declared.Refusal.TheVariants.{PamMalformed, PamUnsupported}
 use Rattle.pixels.specs.Refusals.{number, Cause, cause, first, no_size, size_if}
 use Rattle.pixels.specs.Sizes.{size_of, wrong_size}
@@ -10,8 +11,7 @@ use Rattle.pam_line.specs.declared.Key.TheVariants.{Width, Height, Depth, Maxval
 use Rattle.pam_line.specs.declared.Said.{Said}
 use Rattle.pam_line.specs.declared.Said.TheVariants as said
 use Rattle.pam_line.specs.Line.{text_p7, says}
-use Rattle.pam_header.specs.declared.PamHeader.{PamHeader}
-use Rattle.pam_header.specs.declared.PamHeader.TheVariants.{Picture, Refused, Unfinished}
+use Rattle.pam_header.specs.declared.PamPicture.{PamPicture}
 
 -- ---- lines
 
@@ -181,23 +181,26 @@ unfoldable pub header_unfinished : List ℕ → Bool
 header_unfinished s =
     opens (lines s) && (not (ends (others (lines s))) && (not (strays (others (lines s))) && not (keys_fail few (others (lines s)))))
 
--- ---- an answer's number, size and place
-abbrev pub answer_number : PamHeader → ℕ
-answer_number (Picture size start) = 0
-answer_number (Refused why) = number why
-answer_number Unfinished = number PamMalformed
+-- ---- an answer's number, size and place: a picture, a header that is not finished, which is refused where nothing follows, or a refusal
+abbrev pub Answer : Type 0
+Answer = Result (Option PamPicture) Refusal
 
-abbrev pub answer_size : PamHeader → Dimensions
-answer_size (Picture size start) = size
-answer_size (Refused why) = no_size
-answer_size Unfinished = no_size
+abbrev pub answer_number : Answer → ℕ
+answer_number (Ok (Some picture)) = 0
+answer_number (Ok None) = number PamMalformed
+answer_number (Err why) = number why
 
-abbrev pub answer_start : PamHeader → ℕ
-answer_start (Picture size start) = start
-answer_start (Refused why) = 0
-answer_start Unfinished = 0
+abbrev pub answer_size : Answer → Dimensions
+answer_size (Ok (Some picture)) = picture.size
+answer_size (Ok None) = no_size
+answer_size (Err why) = no_size
 
-abbrev pub answer_unfinished : PamHeader → Bool
-answer_unfinished (Picture size start) = false
-answer_unfinished (Refused why) = false
-answer_unfinished Unfinished = true
+abbrev pub answer_start : Answer → ℕ
+answer_start (Ok (Some picture)) = picture.start
+answer_start (Ok None) = 0
+answer_start (Err why) = 0
+
+abbrev pub answer_unfinished : Answer → Bool
+answer_unfinished (Ok (Some picture)) = false
+answer_unfinished (Ok None) = true
+answer_unfinished (Err why) = false

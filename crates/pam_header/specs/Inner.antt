@@ -1,20 +1,32 @@
 -- The answer at the end of a header, from what the program holds of it. Assumes nothing.
-use Rattle.std.specs.Prelude.{ℕ, ◌-◌, Bool, not, ◌||◌, List, [], ◌∷◌, eqb}
+use Rattle.std.specs.Prelude.{ℕ, Bool, true, false, not, ◌||◌, List, [], ◌∷◌, eqb, Option, is_none}
+use Rattle.std.specs.Option.{unwrap_or}
 use Rattle.pixels.specs.declared.Dimensions.{Dimensions}
 use Rattle.pixels.specs.declared.Refusal.TheVariants.{PamMalformed, PamUnsupported}
 use Rattle.pixels.specs.Refusals.{Cause, cause, first, size_if}
 use Rattle.pixels.specs.Sizes.{size_of, wrong_size}
 use Rattle.pam_seen.specs.declared.Seen.{Seen}
+use Rattle.pam_seen.specs.declared.Types.{Types}
+use Rattle.pam_seen.specs.declared.Types.TheVariants as types
 use Rattle.pam_header.specs.Header.{start_if}
 
 abbrev pub key_missing : Seen → Bool
-key_missing t = eqb t.width 0 || (eqb t.height 0 || (eqb t.depth 0 || eqb t.maxval 0))
+key_missing t = is_none t.width || (is_none t.height || (is_none t.depth || is_none t.maxval))
+
+-- the number held for a key; 0 where none was given
+abbrev pub number_held : Option ℕ → ℕ
+number_held n = unwrap_or n 0
+
+abbrev pub is_rgb_alpha : Types → Bool
+is_rgb_alpha types.Missing = false
+is_rgb_alpha types.RgbAlpha = true
+is_rgb_alpha types.Other = false
 
 abbrev pub other_kind : Seen → Bool
-other_kind t = not (eqb t.depth 5) || (not (eqb t.maxval 256) || not (eqb t.types 1))
+other_kind t = not (eqb (number_held t.depth) 4) || (not (eqb (number_held t.maxval) 255) || not (is_rgb_alpha t.types))
 
 abbrev pub size_held : Seen → Dimensions
-size_held t = size_of (t.width - 1) (t.height - 1)
+size_held t = size_of (number_held t.width) (number_held t.height)
 
 abbrev pub verdict_causes : Seen → List Cause
 verdict_causes t = cause (key_missing t) PamMalformed ∷ cause (other_kind t) PamUnsupported ∷ wrong_size (size_held t) ∷ []

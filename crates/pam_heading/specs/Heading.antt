@@ -1,13 +1,12 @@
 -- The header of a PAM picture as the writer writes it, and the numbers of the functions that do. Assumes nothing.
-use Rattle.std.specs.Prelude.{ℕ, cond, List, [], ◌∷◌, ◌++◌, eqb, length}
+use Rattle.std.specs.Prelude.{ℕ, cond, List, [], ◌∷◌, ◌++◌, eqb, length, Result, Ok, Err}
 use Rattle.pixels.specs.declared.Dimensions.{Dimensions}
+use Rattle.pixels.specs.declared.Refusal.{Refusal}
 use Rattle.pixels.specs.declared.Refusal.TheVariants.{OutputLength}
-use Rattle.pixels.specs.Refusals.{number, Cause, first, other_length, buffer_if}
+use Rattle.pixels.specs.Refusals.{Cause, first, other_length, buffer_if}
 use Rattle.pixels.specs.Sizes.{wrong_size}
 use Rattle.pam_line.specs.Line.{text_p7, text_width, text_height, text_depth, text_maxval, text_tupltype, text_endhdr, text_rgb_alpha}
 use Rattle.pam_decimal.specs.Decimal.{decimal_of}
-use Rattle.pam_heading.specs.declared.PamLength.{PamLength}
-use Rattle.pam_heading.specs.declared.PamLength.TheVariants.{Bytes, Refused}
 
 -- two words, "single spaces"
 abbrev pub spaced : List ℕ → List ℕ → List ℕ
@@ -34,14 +33,10 @@ unfoldable pub heading : Dimensions → List ℕ
 heading size = ended (heading_lines size)
 
 -- ---- how long it is
-abbrev pub length_number : PamLength → ℕ
-length_number (Bytes n) = 0
-length_number (Refused why) = number why
-
 -- a refusal has no bytes: 0
-abbrev pub length_bytes : PamLength → ℕ
-length_bytes (Bytes n) = n
-length_bytes (Refused why) = 0
+abbrev pub length_bytes : Result ℕ Refusal → ℕ
+length_bytes (Ok n) = n
+length_bytes (Err why) = 0
 
 -- the bytes of an answer with the number k
 abbrev pub bytes_if : ℕ → ℕ → ℕ

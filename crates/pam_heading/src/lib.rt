@@ -2,28 +2,23 @@
 #![tactic(auto)]
 
 ghost use Rattle.std.specs.Prelude.{◌≡◌, length};
-ghost use Rattle.pixels.specs.Refusals.{checked_number};
+ghost use Rattle.pixels.specs.Refusals.{answer_number};
 ghost use Rattle.pixels.specs.Sizes.{size_number};
-ghost use Rattle.pam_heading.specs.Heading.{heading, length_number, length_bytes, bytes_if, heading_number, heading_out};
+ghost use Rattle.pam_heading.specs.Heading.{heading, length_bytes, bytes_if, heading_number, heading_out};
 
 use pam_decimal::{digits_of, put_decimal};
 use pam_put::put;
-use pixels::{Checked, Dimensions, Refusal, bad_size};
-
-// A number of bytes, or why there is none.
-#[derive(Clone, Copy)]
-pub enum PamLength {
-    Bytes(usize),
-    Refused(Refusal),
-}
+use pixels::{Dimensions, Refusal, bad_size};
 
 // 63 bytes and the digits of both sides.
+#[tactic(auto, using(crate::proofs::Chain::heading_length, pam_decimal::proofs::Decimals::some_digits))]
 fn heading_length(size: Dimensions) -> usize
     ensures { result ≡ length (heading size) }
 {
     63 + digits_of(size.width) + digits_of(size.height)
 }
 
+#[tactic(auto, using(pam_decimal::proofs::Decimals::some_digits))]
 fn put_heading(size: Dimensions, out: &mut [u8])
     requires { length out.old ≡ length (heading size) }
     ensures { out.new ≡ heading size }
@@ -42,28 +37,28 @@ fn put_heading(size: Dimensions, out: &mut [u8])
 }
 
 // How long the header of a picture is, or 1. Rules out: the digits of the width counted twice; a line's byte 10 not counted.
-pub fn pam_header_length(size: Dimensions) -> PamLength
-    ensures number { length_number result ≡ size_number size }
+pub fn pam_header_length(size: Dimensions) -> Result<usize, Refusal>
+    ensures number { answer_number result ≡ size_number size }
     ensures bytes { length_bytes result ≡ bytes_if (size_number size) (length (heading size)) }
 {
     if bad_size(size) {
-        return PamLength::Refused(Refusal::InvalidDimensions);
+        return Err(Refusal::InvalidDimensions);
     }
-    PamLength::Bytes(heading_length(size))
+    Ok(heading_length(size))
 }
 
 // Writes the header alone: numbers 1 and 4. A program that writes row after row begins with it.
 // Rules out: the height for the width; another order of the lines; a buffer that is too long passed.
-pub fn pam_write_header(size: Dimensions, out: &mut [u8]) -> Checked
-    ensures number { checked_number result ≡ heading_number size (length out.old) }
+pub fn pam_write_header(size: Dimensions, out: &mut [u8]) -> Result<(), Refusal>
+    ensures number { answer_number result ≡ heading_number size (length out.old) }
     ensures out { out.new ≡ heading_out size out.old }
 {
     if bad_size(size) {
-        return Checked::Refused(Refusal::InvalidDimensions);
+        return Err(Refusal::InvalidDimensions);
     }
     if out.len() != heading_length(size) {
-        return Checked::Refused(Refusal::OutputLength);
+        return Err(Refusal::OutputLength);
     }
     put_heading(size, out);
-    Checked::Fit
+    Ok(())
 }

@@ -1,17 +1,20 @@
 -- What the program makes of a line's first three words is what the line says. Assumes nothing.
-use Prim.Native.Nat.{ℕ, ◌≤◌, ◌<◌, min}
+use Prim.Native.Nat.{ℕ, min}
 use mathlib.Core.Path.{◌≡◌, refl, sym, ◌∙◌, ap, ap₂}
-use mathlib.Core.Bool.{Bool, true, false, cond, true≢false}
+use mathlib.Core.Bool.{Bool, true, false, cond, ◌&&◌}
 use mathlib.Core.List.{List, [], ◌∷◌}
 use native.Mathlib.Omega.{arith}
-use lib.Dec.{eqb, eqb-suc-zero}
-use lib.ListN.{length, get_or}
-use borrow.Author.Tests.{eq-eqb, ne_eqb}
-use Rattle.preview_decimal.specs.Decimal.{digits, value, none, decimal}
+use lib.Dec.{eqb, ltb, eqb-suc-zero}
+use lib.ListN.{length}
+use borrow.Author.Tests.{eq-eqb, ne_eqb, eqb-true, eqb-false, ltb-true, ltb-false}
+use Rattle.std.specs.List.{starts_with}
+use Rattle.std.proofs.Common.{Option, Some, None}
+use Rattle.std.specs.Option.{unwrap_or}
+use Rattle.preview_decimal.specs.Decimal.{digits, value, none, decimal, decimal_value}
 use Rattle.pam_text.specs.declared.Class.TheVariants.{Digit}
 use Rattle.pam_text.specs.Text.{run_length, same_text}
 use Rattle.pam_text.proofs.Texts.{all_digits}
-use Rattle.pam_words.specs.Words.{closed, words_from, words, word_of, past_word}
+use Rattle.pam_words.specs.Words.{closed, words, word_of, past_word}
 use Rattle.pam_words.proofs.WordByWord.{words_are, no_words}
 use Rattle.pam_line.specs.Line.{text_rgb_alpha, keyword_of, says_by, words_say, is_comment, says}
 use Rattle.pam_line.specs.Inner.{cut, held, number_said, type_said, said_of}
@@ -21,33 +24,36 @@ use Rattle.pam_line.specs.declared.Keyword.TheVariants as keyword
 use Rattle.pam_line.specs.declared.Said.TheVariants as said
 
 -- ---- a number
-module _ (key : Key) (a b : List ℕ) (full : length a ≡ 0 → ⊥) (alone : length b ≡ 0) (n : ℕ) (run : n ≡ run_length Digit a) where
+module _ (key : Key) (a b : List ℕ) (n : ℕ) (run : n ≡ run_length Digit a) where
   digits_are : (x : Bool) → eqb n (length a) ≡ x → digits a (length a) ≡ x
   digits_are x e = sym (all_digits a) ∙ ap (λ (k : ℕ). eqb k (length a)) (sym run) ∙ e
 
+  outside : (x y : Bool) → said.Outside ≡ cond x said.Outside (cond y said.Outside said.Outside)
+  outside true y = refl
+  outside false true = refl
+  outside false false = refl
+
   pub number_letter : (n ≡ length a → ⊥) → said.Outside ≡ number_said key a b
   unfolding number_said
-  number_letter d = simp (ne_eqb (length a) 0 full, eq-eqb (length b) 0 alone, digits_are false (ne_eqb n (length a) d))
+  number_letter d = rw (digits_are false (ne_eqb n (length a) d)) (outside (eqb (length a) 0) (eqb (length b) 0))
 
-  module _ (r : ℕ) (e : n ≡ length a) (f : r ≡ decimal a) where
+  module _ (full : eqb (length a) 0 ≡ false) (alone : eqb (length b) 0 ≡ true) (e : n ≡ length a) where
     good : digits a (length a) ≡ true
     good = digits_are true (eq-eqb n (length a) e)
 
-    some : eqb (length a) 0 ≡ false
-    some = ne_eqb (length a) 0 full
-
-    told : r ≡ min (value a (length a)) none
-    told = f ∙ simp (some, good)
-
     number_is : (v : ℕ) → v ≡ cut (value a (length a)) → said.Number key v ≡ number_said key a b
     unfolding number_said
-    number_is v g = ap (said.Number key) g ∙ simp (some, eq-eqb (length b) 0 alone, good)
+    number_is v g = ap (said.Number key) g ∙ simp (full, alone, good)
 
-    pub number_large : none ≤ r → said.Number key 4294967295 ≡ number_said key a b
-    number_large h = number_is 4294967295 (omega (arith, told))
+    whole : decimal a ≡ min (value a (length a)) none
+    whole = simp (full, good)
 
-    pub number_fits : r < none → said.Number key r ≡ number_said key a b
-    number_fits h = number_is r (omega (arith, told))
+    told : (x : Bool) → ltb (decimal a) none ≡ x → unwrap_or (cond x (Some (decimal a)) None) 4294967295 ≡ cut (value a (length a))
+    told true f = omega (arith, whole, ltb-true (decimal a) none f)
+    told false f = omega (arith, whole, ltb-false (decimal a) none f)
+
+    pub number_alone : (o : Option ℕ) (v : ℕ) → o ≡ decimal_value a → v ≡ unwrap_or o 4294967295 → said.Number key v ≡ number_said key a b
+    number_alone o v is f = number_is v (f ∙ ap (λ (p : Option ℕ). unwrap_or p 4294967295) is ∙ told (ltb (decimal a) none) refl)
 
 -- ---- the words after the first, by the second and the third
 held_digits : (key : Key) (v : ℕ) (x : Bool) → cond x (said.Number key (cut v)) said.Outside ≡ held (cond x (said.Number key v) said.Outside)
@@ -90,23 +96,24 @@ said_by k (x ∷ a) (y ∷ b) ws vs others e n f m =
     two_more k x a y b others ∙ sym (ap (λ (w : List (List ℕ)). held (says_by k w)) (e ∙ ap (closed (x ∷ a)) f))
 
 -- ---- the line
-pub says_nothing : (l : List ℕ) → length l ≡ 0 → said.Nothing ≡ held (says l)
-unfolding says words_from
-says_nothing [] e = refl
-says_nothing (b ∷ l) e = absurd (omega arith)
+hash_case : (b : ℕ) (x : Bool) → eqb b 35 ≡ x → (eqb 35 b && true) ≡ x
+hash_case b true e = simp (eq-eqb 35 b (sym (eqb-true b 35 e)))
+hash_case b false e = simp (ne_eqb 35 b (λ z. eqb-false b 35 e (sym z)))
 
-pub says_comment : (l : List ℕ) → get_or l 0 0 ≡ 35 → said.Nothing ≡ held (says l)
+pub hash_is : (l : List ℕ) → starts_with eqb l (35 ∷ []) ≡ is_comment l
+hash_is [] = refl
+hash_is (b ∷ l) = hash_case b (eqb b 35) refl
+
+comment_says : (l : List ℕ) (x : Bool) → is_comment l ≡ x → cond x said.Nothing (words_say (words l)) ≡ says l
 unfolding says
-says_comment l e = sym (ap held (cond_true (is_comment l) (eq-eqb (get_or l 0 0) 35 e)))
-  where
-    cond_true : (x : Bool) → x ≡ true → cond x said.Nothing (words_say (words l)) ≡ said.Nothing
-    cond_true true f = refl
-    cond_true false f = absurd (true≢false (sym f))
+comment_says l x e = rw e refl
 
-module _ (l : List ℕ) (plain : get_or l 0 0 ≡ 35 → ⊥) where
+pub says_comment : (l : List ℕ) → is_comment l ≡ true → said.Nothing ≡ held (says l)
+says_comment l e = ap held (comment_says l true e)
+
+module _ (l : List ℕ) (plain : is_comment l ≡ false) where
   by_words : says l ≡ words_say (words l)
-  unfolding says
-  by_words = rw (ne_eqb (get_or l 0 0) 35 plain) refl
+  by_words = sym (comment_says l false plain)
 
   pub says_blank : (w : List ℕ) → w ≡ word_of l → length w ≡ 0 → said.Nothing ≡ held (says l)
   says_blank w e z = sym (ap held (by_words ∙ ap words_say (no_words l (sym (ap length e) ∙ z))))

@@ -1,5 +1,5 @@
 -- What a line says, as the program has it: by its first three words, empty where there is none, a number cut off at 2^32 - 1. Assumes nothing.
-use Rattle.std.specs.Prelude.{ℕ, ◌-◌, min, cond, List, [], ◌∷◌, eqb, length}
+use Rattle.std.specs.Prelude.{ℕ, ◌-◌, min, cond, List, eqb, length}
 use Rattle.preview_decimal.specs.Decimal.{digits, value, none}
 use Rattle.pam_text.specs.Text.{same_text}
 use Rattle.pam_line.specs.Line.{text_rgb_alpha}

@@ -6,8 +6,8 @@ ghost use Rattle.pam_line.specs.Line.{keyword_of, says};
 ghost use Rattle.pam_line.specs.Inner.{held, number_said, said_of};
 
 use pam_text::{Class, run_of, same};
-use pam_words::{past, word};
-use preview_decimal::{NONE, number};
+use pam_words::split_word;
+use preview_decimal::number;
 
 // What a number may be given for.
 #[derive(Clone, Copy)]
@@ -41,6 +41,8 @@ pub enum Said {
     Outside,
 }
 
+// Kept: (c) a match on the byte strings is refused, with 43 goals open, 36 of them in its last arm.
+#[tactic(auto, unfolding(crate::specs::Line::keyword_of))]
 fn keyword_of(w: &[u8]) -> Keyword
     ensures { result ≡ keyword_of w.now }
 {
@@ -66,80 +68,49 @@ fn keyword_of(w: &[u8]) -> Keyword
 }
 
 // A line of a number, by its second word and its third, empty where there is none.
+#[tactic(auto, using(crate::proofs::Saying::number_letter, crate::proofs::Saying::number_alone), unfolding(crate::specs::Inner::number_said))]
 fn number_line(key: Key, word: &[u8], next: &[u8]) -> Said
     ensures { result ≡ number_said key word.now next.now }
 {
-    if word.len() == 0 {
+    if word.is_empty() || !next.is_empty() || run_of(Class::Digit, word) != word.len() {
         return Said::Outside;
-    }
-    if next.len() != 0 {
-        return Said::Outside;
-    }
-    let n = run_of(Class::Digit, word);
-    if n != word.len() {
-        return Said::Outside;
-    }
-    let v = number(word);
-    if v >= NONE {
-        return Said::Number {
-            key: key,
-            value: 4294967295,
-        };
     }
     Said::Number {
-        key: key,
-        value: v as u32,
+        key,
+        value: number(word).unwrap_or(u32::MAX),
     }
 }
 
 // A line by its first word, its second and its third.
+#[tactic(auto, unfolding(crate::specs::Inner::type_said))]
 fn by_words(keyword: Keyword, a: &[u8], b: &[u8]) -> Said
     ensures { result ≡ said_of keyword a.now b.now }
 {
     match keyword {
         Keyword::Number(key) => number_line(key, a, b),
-        Keyword::Type => {
-            if a.len() == 0 {
-                return Said::Outside;
-            }
-            if b.len() != 0 {
-                return Said::OtherType;
-            }
-            if same(a, b"RGB_ALPHA") {
-                return Said::RgbAlpha;
-            }
-            Said::OtherType
-        }
-        Keyword::End => {
-            if a.len() != 0 {
-                return Said::Outside;
-            }
-            Said::End
-        }
-        Keyword::Other => Said::Outside,
+        Keyword::Type if a.is_empty() => Said::Outside,
+        Keyword::Type if b.is_empty() && same(a, b"RGB_ALPHA") => Said::RgbAlpha,
+        Keyword::Type => Said::OtherType,
+        Keyword::End if a.is_empty() => Said::End,
+        Keyword::End | Keyword::Other => Said::Outside,
     }
 }
 
 // What a line says; a number of more than 32 bits is told as the largest of them.
 // Rules out: HEIGHT taken for WIDTH; a number left out, a letter in it, a word after it; a tuple type of no word; RGB_ALPHA and another word taken
 // for RGB_ALPHA alone; a word after ENDHDR; a comment that begins with %.
+#[tactic(auto, using(crate::proofs::Saying::hash_is, crate::proofs::Saying::says_comment, crate::proofs::Saying::says_blank))]
 pub fn line_says(line: &[u8]) -> Said
     ensures { result ≡ held (says line.now) }
 {
-    if line.len() == 0 {
+    if line.starts_with(b"#") {
         return Said::Nothing;
     }
-    if line[0] == 35 {
+    let (w, rest) = split_word(line);
+    if w.is_empty() {
         return Said::Nothing;
     }
-    let w = word(line);
-    if w.len() == 0 {
-        return Said::Nothing;
-    }
-    let keyword = keyword_of(w);
-    let rest = past(line);
-    let a = word(rest);
-    let more = past(rest);
-    let b = word(more);
-    by_words(keyword, a, b)
+    let (a, more) = split_word(rest);
+    let (b, _) = split_word(more);
+    by_words(keyword_of(w), a, b)
 }

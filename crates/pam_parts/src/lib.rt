@@ -7,18 +7,12 @@ ghost use Rattle.std.specs.Prelude.{◌≡◌, take, drop};
 pub fn tail_of(s: &[u8], k: usize) -> &[u8]
     ensures { result.now ≡ drop k s.now }
 {
-    if s.len() < k {
-        return &s[0..0];
-    }
-    &s[k..]
+    s.get(k..).unwrap_or(&[])
 }
 
 // The first k bytes, all where there are fewer. Rules out: all where there are more; what follows them.
 pub fn head_of(s: &[u8], k: usize) -> &[u8]
     ensures { result.now ≡ take k s.now }
 {
-    if s.len() < k {
-        return s;
-    }
-    &s[0..k]
+    s.get(..k).unwrap_or(s)
 }

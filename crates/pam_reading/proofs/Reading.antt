@@ -1,13 +1,10 @@
 -- The header's number is handed on; else the length decides. Assumes nothing.
-use Prim.Native.Nat.{ℕ, ◌+◌, ◌-◌, ◌≤◌}
+use Prim.Native.Nat.{ℕ, ◌+◌}
 use mathlib.Core.Path.{◌≡◌, sym, ◌∙◌, ap, ap₂}
 use mathlib.Core.Bool.{Bool, true, false, not}
-use mathlib.Core.Logic.{◌⊎◌, inl, inr}
 use mathlib.Core.List.{List, [], ◌∷◌}
-use native.Mathlib.Omega.{arith}
 use lib.Dec.{eqb}
 use lib.ListN.{length, drop}
-use borrow.Author.Tests.{eq-eqb, ne_eqb, eqb-true, eqb-false}
 use Rattle.pixels.specs.declared.Dimensions.{Dimensions}
 use Rattle.pixels.specs.declared.Refusal.{Refusal}
 use Rattle.pixels.specs.declared.Refusal.TheVariants.{PixelBufferMismatch}
@@ -15,21 +12,8 @@ use Rattle.pixels.specs.Refusals.{number, Cause, no_size, other_length}
 use Rattle.pixels.specs.Sizes.{pixel_lanes, picture_bytes}
 use Rattle.pixels.proofs.Causes.{first_at, first_none, first_past, first_stays}
 use Rattle.pixels.proofs.Numbers.{not_zero, sized_refused}
-use Rattle.pixels.proofs.Truths.{test}
 use Rattle.pam_header.specs.Header.{header_causes, header_number, header_size, header_start, size_said, pixels_from}
 use Rattle.pam_reading.specs.Reading.{whole_bytes, pam_number, pam_size, pam_pixels}
-
--- ---- lengths, with what stands before taken off
-pub rest_alike : (n start k : ℕ) → start ≤ n → not (eqb (n - start) k) ≡ not (eqb n (start + k))
-rest_alike n start k h = by (test (eqb (n - start) k))
-  where
-    by : (eqb (n - start) k ≡ true) ⊎ (eqb (n - start) k ≡ false) → not (eqb (n - start) k) ≡ not (eqb n (start + k))
-    by (inl e) =
-        let q : n ≡ start + k = omega (arith, eqb-true (n - start) k e) in
-        simp (e, eq-eqb n (start + k) q)
-    by (inr e) =
-        let q : n ≡ start + k → ⊥ = λ f. eqb-false (n - start) k e (omega (arith, f)) in
-        simp (e, ne_eqb n (start + k) q)
 
 -- ---- a refusal, whoever told it
 module _ (s : List ℕ) (why : Refusal) (e : pam_number s ≡ number why) where

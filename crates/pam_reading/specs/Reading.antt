@@ -1,5 +1,5 @@
 -- A PAM picture: the numbers of the reader, its size and its pixels. Assumes nothing.
-use Rattle.std.specs.Prelude.{ℕ, ◌+◌, cond, List, [], ◌∷◌, ◌++◌, eqb, length, drop}
+use Rattle.std.specs.Prelude.{ℕ, ◌+◌, List, [], ◌∷◌, ◌++◌, length, drop}
 use Rattle.pixels.specs.declared.Dimensions.{Dimensions}
 use Rattle.pixels.specs.declared.Refusal.TheVariants.{PixelBufferMismatch}
 use Rattle.pixels.specs.Refusals.{Cause, first, other_length, size_if, buffer_if}

@@ -6,20 +6,35 @@ ghost use Rattle.pam_seen.specs.Inner.{at, put, after_line};
 
 use pam_line::{Key, Said};
 
-#[derive(Clone, Copy)]
-pub struct Seen {
-    // 0 where not given yet, else one more than the number
-    pub width: u64,
-    pub height: u64,
-    pub depth: u64,
-    pub maxval: u64,
-    // 0 for no tuple type, 1 for RGB_ALPHA alone in one line, 2 for anything else
-    pub types: u32,
-    // 0 while the header goes on, 1 once it has ended, 2 outside the form
-    pub state: u32,
+// The tuple types given so far: none, RGB_ALPHA alone in one line, or anything else.
+#[derive(Clone, Copy, PartialEq, Eq)]
+pub enum Types {
+    Missing,
+    RgbAlpha,
+    Other,
 }
 
-fn given(t: Seen, key: Key) -> u64
+// Where the header stands: it goes on, it has ended, or a line was outside the form.
+#[derive(Clone, Copy, PartialEq, Eq)]
+pub enum State {
+    GoesOn,
+    Ended,
+    Outside,
+}
+
+// The number given for each key, the tuple types, and where the header stands.
+#[derive(Clone, Copy)]
+pub struct Seen {
+    pub width: Option<u32>,
+    pub height: Option<u32>,
+    pub depth: Option<u32>,
+    pub maxval: Option<u32>,
+    pub types: Types,
+    pub state: State,
+}
+
+// Kept, and the next: of an array by the key's number no field would have a name.
+fn given(t: Seen, key: Key) -> Option<u32>
     ensures { result ≡ at t key }
 {
     match key {
@@ -30,22 +45,14 @@ fn given(t: Seen, key: Key) -> u64
     }
 }
 
-fn give(mut t: Seen, key: Key, v: u64) -> Seen
+fn give(mut t: Seen, key: Key, v: u32) -> Seen
     ensures { result ≡ put t key v }
 {
     match key {
-        Key::Width => {
-            t.width = v;
-        }
-        Key::Height => {
-            t.height = v;
-        }
-        Key::Depth => {
-            t.depth = v;
-        }
-        Key::Maxval => {
-            t.maxval = v;
-        }
+        Key::Width => t.width = Some(v),
+        Key::Height => t.height = Some(v),
+        Key::Depth => t.depth = Some(v),
+        Key::Maxval => t.maxval = Some(v),
     }
     t
 }
@@ -55,33 +62,12 @@ pub fn after_line(mut t: Seen, said: Said) -> Seen
     ensures { result ≡ after_line t said }
 {
     match said {
-        Said::Nothing => t,
-        Said::Number { key, value } => {
-            if given(t, key) != 0 {
-                t.state = 2;
-                return t;
-            }
-            give(t, key, value as u64 + 1)
-        }
-        Said::RgbAlpha => {
-            if t.types != 0 {
-                t.types = 2;
-                return t;
-            }
-            t.types = 1;
-            t
-        }
-        Said::OtherType => {
-            t.types = 2;
-            t
-        }
-        Said::End => {
-            t.state = 1;
-            t
-        }
-        Said::Outside => {
-            t.state = 2;
-            t
-        }
+        Said::Nothing => {}
+        Said::Number { key, value } if given(t, key).is_none() => t = give(t, key, value),
+        Said::RgbAlpha if t.types == Types::Missing => t.types = Types::RgbAlpha,
+        Said::RgbAlpha | Said::OtherType => t.types = Types::Other,
+        Said::End => t.state = State::Ended,
+        Said::Number { .. } | Said::Outside => t.state = State::Outside,
     }
+    t
 }

@@ -1,5 +1,5 @@
 -- Bytes of a PAM header: what a blank is, runs of bytes of one kind, and texts compared. Assumes nothing.
-use Rattle.std.specs.Prelude.{ℕ, zero, suc, Bool, true, false, not, cond, ◌&&◌, ◌||◌, List, [], ◌∷◌, leb, eqb}
+use Rattle.std.specs.Prelude.{ℕ, suc, Bool, true, false, not, cond, ◌&&◌, ◌||◌, List, [], ◌∷◌, leb, eqb}
 use Rattle.preview_decimal.specs.Decimal.{is_digit}
 use Rattle.pam_text.specs.declared.Class.{Class}
 use Rattle.pam_text.specs.declared.Class.TheVariants.{Inside, Blank, Solid, Digit}

@@ -4,11 +4,11 @@
 // The file `stdout` holds what tests/pam_model.py says of the same inputs.
 #![tactic(auto)]
 
-use pam_header::{PamHeader, pam_header};
+use pam_header::{PamPicture, pam_header};
 use pam_parts::{head_of, tail_of};
 use pam_reading::{pam_pixels, pam_size};
 use pam_text::{Class, run_of};
-use pixels::{Dimensions, Refusal, Sized};
+use pixels::{Dimensions, Refusal};
 use std::io;
 
 mod accepted;
@@ -31,11 +31,9 @@ fn main(rt: HostRuntime) -> io::Result<()> {
 
 // Runs each trial of a list. A tilde ends a trial; no input has one.
 pub(crate) fn each(rt: &impl Print, list: &[u8]) -> io::Result<()> {
-    let mut from = 0usize;
-    for i in 0..list.len() {
-        if list[i] == b'~' {
-            trial(rt, &list[from..i])?;
-            from = i + 1;
+    for text in list.split_inclusive(|b| *b == b'~') {
+        if let Some(text) = text.strip_suffix(b"~") {
+            trial(rt, text)?;
         }
     }
     Ok(())
@@ -61,24 +59,24 @@ pub(crate) fn answers(rt: &impl Print, input: &[u8]) -> io::Result<()> {
 
 // ---- writing
 
-fn header(rt: &impl Print, answer: PamHeader) -> io::Result<()> {
+fn header(rt: &impl Print, answer: Result<Option<PamPicture>, Refusal>) -> io::Result<()> {
     match answer {
-        PamHeader::Picture { size, start } => {
+        Ok(Some(PamPicture { size, start })) => {
             sides(rt, size)?;
             print!(rt; " at {start}")
         }
-        PamHeader::Refused(why) => number(rt, why),
-        PamHeader::Unfinished => print!(rt; "11 unfinished"),
+        Ok(None) => print!(rt; "11 unfinished"),
+        Err(why) => number(rt, why),
     }
 }
 
-fn whole(rt: &impl Print, answer: Sized) -> io::Result<()> {
+fn whole(rt: &impl Print, answer: Result<Dimensions, Refusal>) -> io::Result<()> {
     match answer {
-        Sized::Size(size) => {
+        Ok(size) => {
             sides(rt, size)?;
             print!(rt; ", ")
         }
-        Sized::Refused(why) => number(rt, why),
+        Err(why) => number(rt, why),
     }
 }
 

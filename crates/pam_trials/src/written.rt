@@ -1,8 +1,7 @@
 // The writer: how long a file is, what is written and how it reads back, and the numbers 1, 3 and 4.
 use crate::{answers, hex, number, sides};
-use pam_heading::PamLength;
 use pam_writing::{pam_length, pam_write};
-use pixels::{Checked, Dimensions};
+use pixels::{Dimensions, Refusal};
 use std::io;
 
 pub(crate) fn trials(rt: &impl Print) -> io::Result<()> {
@@ -55,10 +54,10 @@ fn length(rt: &impl Print, width: u32, height: u32) -> io::Result<()> {
     length_line(rt, pam_length(size))
 }
 
-fn length_line(rt: &impl Print, answer: PamLength) -> io::Result<()> {
+fn length_line(rt: &impl Print, answer: Result<usize, Refusal>) -> io::Result<()> {
     match answer {
-        PamLength::Bytes(n) => println!(rt; "{n} bytes"),
-        PamLength::Refused(why) => {
+        Ok(n) => println!(rt; "{n} bytes"),
+        Err(why) => {
             number(rt, why)?;
             println!(rt;)
         }
@@ -87,10 +86,10 @@ fn asked(rt: &impl Print, size: Dimensions, bytes: usize, room: usize) -> io::Re
     print!(rt; " of {bytes} bytes into {room}: ")
 }
 
-fn told(rt: &impl Print, answer: Checked) -> io::Result<()> {
+fn told(rt: &impl Print, answer: Result<(), Refusal>) -> io::Result<()> {
     match answer {
-        Checked::Fit => print!(rt; "0 "),
-        Checked::Refused(why) => {
+        Ok(()) => print!(rt; "0 "),
+        Err(why) => {
             number(rt, why)?;
             print!(rt; " ")
         }

@@ -1,11 +1,11 @@
 -- The first word, then the words of what follows it, are the words of a line. Assumes nothing.
 use Prim.Native.Nat.{ℕ, suc}
 use mathlib.Core.Path.{◌≡◌, refl, sym, ◌∙◌, ap, ap₂}
-use mathlib.Core.Bool.{Bool, true, false, cond, not}
+use mathlib.Core.Bool.{Bool, true, false, cond}
 use mathlib.Core.List.{List, [], ◌∷◌, ◌++◌, append-nil, append_assoc}
 use native.Mathlib.Omega.{arith}
 use lib.ListN.{length, take, drop}
-use Rattle.pam_text.specs.declared.Class.TheVariants.{Blank, Solid}
+use Rattle.pam_text.specs.declared.Class.TheVariants.{Solid}
 use Rattle.pam_text.specs.Text.{is_blank, run_length}
 use Rattle.pam_words.specs.Words.{closed, words_from, words, unblank, word_of, past_word}
 

@@ -1,18 +1,17 @@
 -- Laws of the numbers of "Why a call is turned away": a number names its cause, none is 0, and an answer is told by its number. Assumes nothing.
 use Prim.Native.Nat.{ℕ, ◌<◌}
 use mathlib.Core.Path.{◌≡◌, refl, sym, ap, ◌∙◌}
-use mathlib.Core.Bool.{Bool, false}
+use mathlib.Core.Bool.{Bool, true, false}
 use mathlib.Core.List.{List, [], ◌∷◌}
 use native.Mathlib.Omega.{arith}
 use lib.Dec.{eqb, lit<}
 use borrow.Author.Tests.{ne_eqb}
 use lib.ListN.{get_or}
+use Rattle.std.specs.Prelude.{Result, Ok, Err, is_err, IsOk, ⊤}
 use Rattle.pixels.specs.declared.Dimensions.{Dimensions}
 use Rattle.pixels.specs.declared.Refusal.{Refusal}
 use Rattle.pixels.specs.declared.Refusal.TheVariants.{InvalidDimensions, CropOutOfBounds, PixelBufferMismatch, OutputLength, WorkLength, InvalidRecord, RowReady, AllAccepted, NoneReady, InvalidLanes, PamMalformed, PamUnsupported, InvalidGroup, GroupTooLarge, UnequalSizes, BackgroundNotOpaque, InvalidBand}
-use Rattle.pixels.specs.declared.Checked.{Checked}
-use Rattle.pixels.specs.declared.Checked.TheVariants.{Fit, Refused}
-use Rattle.pixels.specs.Refusals.{number, checked_number, no_size, size_if, flag_if, buffer_if}
+use Rattle.pixels.specs.Refusals.{number, answer_number, value_or, no_size, size_if, flag_if, buffer_if}
 
 -- the cause of a number
 unfoldable named : ℕ → Refusal
@@ -62,11 +61,27 @@ number_pos BackgroundNotOpaque = lit< tt
 number_pos InvalidBand = lit< tt
 
 -- an end in itself: an answer is known by its number, so a contract that tells the number tells the answer
-pub checked_is : (a b : Checked) → checked_number a ≡ checked_number b → a ≡ b
-checked_is Fit Fit e = refl
-checked_is Fit (Refused why) e = absurd (omega (arith, number_pos why))
-checked_is (Refused why) Fit e = absurd (omega (arith, number_pos why))
-checked_is (Refused a) (Refused b) e = ap Refused (number_injective a b e)
+pub checked_is : (a b : Result ⊤ Refusal) → answer_number a ≡ answer_number b → a ≡ b
+checked_is (Ok x) (Ok y) e = refl
+checked_is (Ok x) (Err why) e = absurd (omega (arith, number_pos why))
+checked_is (Err why) (Ok x) e = absurd (omega (arith, number_pos why))
+checked_is (Err a) (Err b) e = ap Err (number_injective a b e)
+
+-- an answer that is an error has the number of its cause, and any other 0
+pub err_told : {T : Type 0} (r : Result T Refusal) → is_err r ≡ true → (why : Refusal) × (answer_number r ≡ number why)
+err_told (Ok x) e = cc
+err_told (Err why) e = (why, refl)
+
+pub ok_told : {T : Type 0} (r : Result T Refusal) → is_err r ≡ false → answer_number r ≡ 0
+ok_told (Ok x) e = refl
+ok_told (Err why) e = cc
+
+pub ok_of : {T : Type 0} (r : Result T Refusal) → answer_number r ≡ 0 → IsOk r
+ok_of (Ok x) e = refl
+ok_of (Err why) e = absurd (omega (arith, number_pos why))
+
+pub value_of : {T : Type 0} (other : T) (r : Result T Refusal) {x : T} → r ≡ Ok x → value_or other r ≡ other → x ≡ other
+value_of other r e h = rw e at h
 
 -- ---- number and values of an answer, told by what was called
 pub not_zero : (why : Refusal) (n : ℕ) → n ≡ number why → eqb n 0 ≡ false

@@ -1,14 +1,8 @@
 -- Why a call is turned away: SCOPE's table, the number of each cause, and the number and the values of each answer. Assumes nothing.
-use Rattle.std.specs.Prelude.{ℕ, Bool, false, cond, not, List, [], ◌∷◌, eqb, ltb}
+use Rattle.std.specs.Prelude.{ℕ, Bool, false, cond, not, List, [], ◌∷◌, eqb, ltb, Result, Ok, Err}
 use Rattle.pixels.specs.declared.Dimensions.{Dimensions}
 use Rattle.pixels.specs.declared.Refusal.{Refusal}
 use Rattle.pixels.specs.declared.Refusal.TheVariants.{InvalidDimensions, CropOutOfBounds, PixelBufferMismatch, OutputLength, WorkLength, InvalidRecord, RowReady, AllAccepted, NoneReady, InvalidLanes, PamMalformed, PamUnsupported, InvalidGroup, GroupTooLarge, UnequalSizes, BackgroundNotOpaque, InvalidBand}
-use Rattle.pixels.specs.declared.Checked.{Checked}
-use Rattle.pixels.specs.declared.Checked.TheVariants as checked
-use Rattle.pixels.specs.declared.Sized.{Sized}
-use Rattle.pixels.specs.declared.Sized.TheVariants as sized
-use Rattle.pixels.specs.declared.Flagged.{Flagged}
-use Rattle.pixels.specs.declared.Flagged.TheVariants as flagged
 
 -- the column "No." of the table
 abbrev pub number : Refusal → ℕ
@@ -54,34 +48,31 @@ abbrev pub few_work : ℕ → ℕ → Cause
 few_work n needed = cause (ltb n needed) WorkLength
 
 -- ---- answers: the number is 0 where the call was accepted
-abbrev pub checked_number : Checked → ℕ
-checked_number checked.Fit = 0
-checked_number (checked.Refused why) = number why
+abbrev pub answer_number : {T : Type 0} → Result T Refusal → ℕ
+answer_number (Ok x) = 0
+answer_number (Err why) = number why
 
-abbrev pub sized_number : Sized → ℕ
-sized_number (sized.Size size) = 0
-sized_number (sized.Refused why) = number why
+-- what an answer has, or what stands for it where the call was refused
+abbrev pub value_or : {T : Type 0} → T → Result T Refusal → T
+value_or other (Ok x) = x
+value_or other (Err why) = other
 
 -- what a refusal has in place of a size
 abbrev pub no_size : Dimensions
 no_size = record { width = 0; height = 0 }
 
-abbrev pub sized_size : Sized → Dimensions
-sized_size (sized.Size size) = size
-sized_size (sized.Refused why) = no_size
+abbrev pub sized_size : Result Dimensions Refusal → Dimensions
+sized_size (Ok size) = size
+sized_size (Err why) = no_size
 
 -- the size of an answer with the number n
 abbrev pub size_if : ℕ → Dimensions → Dimensions
 size_if n size = cond (eqb n 0) size no_size
 
-abbrev pub flagged_number : Flagged → ℕ
-flagged_number (flagged.Flag flag) = 0
-flagged_number (flagged.Refused why) = number why
-
 -- a refusal has no flag: false
-abbrev pub flagged_flag : Flagged → Bool
-flagged_flag (flagged.Flag flag) = flag
-flagged_flag (flagged.Refused why) = false
+abbrev pub flagged_flag : Result Bool Refusal → Bool
+flagged_flag (Ok flag) = flag
+flagged_flag (Err why) = false
 
 -- the flag of an answer with the number n
 abbrev pub flag_if : ℕ → Bool → Bool

@@ -2,10 +2,12 @@
 // geometry.rs). Every function answers for all arguments. Fields are public: a value counts, whoever filled it, and is tested where it is used.
 #![tactic(auto)]
 
+ghost use Rattle.std.specs.Prelude.{◌≡◌};
+ghost use Rattle.pixels.specs.Refusals.{number};
+
 pub use sizes::{bad_side, bad_size};
 
 mod sizes;
-mod table;
 
 // Largest side of a picture, in pixels (the Rust's name): a bitstream stores a side less one in 14 bits.
 pub const MAX_DIMENSION: u32 = 16384;
@@ -16,14 +18,15 @@ pub const PIXEL_LANES: usize = 4;
 // The most lanes that a plane has.
 pub const MAX_LANES: u32 = 4;
 
-#[derive(Clone, Copy)]
+// A size, in pixels.
+#[derive(Clone, Copy, Debug, PartialEq, Eq)]
 pub struct Dimensions {
     pub width: u32,
     pub height: u32,
 }
 
 // A crop: its corner and its size, in pixels of the source.
-#[derive(Clone, Copy)]
+#[derive(Clone, Copy, Debug, PartialEq, Eq)]
 pub struct Rect {
     pub x: u32,
     pub y: u32,
@@ -31,62 +34,50 @@ pub struct Rect {
     pub height: u32,
 }
 
-// Why a call is turned away, in the order of SCOPE's table; specs/Refusals.antt has the numbers.
-#[derive(Clone, Copy)]
+// Why a call is turned away: the rows of SCOPE's table, each with the number that the table gives it.
+#[derive(Clone, Copy, Debug, PartialEq, Eq)]
 pub enum Refusal {
     // a source or target side is 0 or above MAX_DIMENSION, or the crop is empty
-    InvalidDimensions,
+    InvalidDimensions = 1,
     // the crop's right or bottom edge lies beyond the picture
-    CropOutOfBounds,
+    CropOutOfBounds = 2,
     // pixels, alpha plane or offered rows of another length
-    PixelBufferMismatch,
+    PixelBufferMismatch = 3,
     // an output buffer not of the exact length
-    OutputLength,
+    OutputLength = 4,
     // too few work values
-    WorkLength,
+    WorkLength = 5,
     // a record that breaks the rules
-    InvalidRecord,
+    InvalidRecord = 6,
     // an offer while an output row is ready
-    RowReady,
+    RowReady = 7,
     // an offer with all source rows accepted
-    AllAccepted,
+    AllAccepted = 8,
     // a take with none ready
-    NoneReady,
+    NoneReady = 9,
     // a plane of no lanes, or of more than MAX_LANES
-    InvalidLanes,
+    InvalidLanes = 10,
     // a PAM header outside the form
-    PamMalformed,
+    PamMalformed = 11,
     // a PAM header inside the form, of another depth, maximum or tuple type than the reader takes
-    PamUnsupported,
+    PamUnsupported = 12,
     // a group without jobs, or of jobs that do not go over one source; a job that the group lacks
-    InvalidGroup,
+    InvalidGroup = 13,
     // a group of more jobs than the limit
-    GroupTooLarge,
+    GroupTooLarge = 14,
     // a badge of another size than its background
-    UnequalSizes,
+    UnequalSizes = 15,
     // a background with an alpha byte other than 255
-    BackgroundNotOpaque,
+    BackgroundNotOpaque = 16,
     // a stretch that isn't exactly the rows of the next band, or where there is none
-    InvalidBand,
+    InvalidBand = 17,
 }
 
-// Whether what was asked may be done, or why not.
-#[derive(Clone, Copy)]
-pub enum Checked {
-    Fit,
-    Refused(Refusal),
-}
-
-// A size, or why there is none.
-#[derive(Clone, Copy)]
-pub enum Sized {
-    Size(Dimensions),
-    Refused(Refusal),
-}
-
-// The alpha flag of a picture, or why there is none.
-#[derive(Clone, Copy)]
-pub enum Flagged {
-    Flag(bool),
-    Refused(Refusal),
+impl Refusal {
+    // The column "No." of the table. Rules out: two numbers exchanged; 0, which is the number of a call that went through.
+    pub fn number(self) -> u32
+        ensures { result ≡ number self }
+    {
+        self as u32
+    }
 }

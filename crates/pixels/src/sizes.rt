@@ -1,9 +1,9 @@
 // Sizes (SCOPE, "Beside the job" and numbers 1 and 2 of "Why a call is turned away"; the Rust: Dimensions and Rect).
 ghost use Rattle.std.specs.Prelude.{◌≡◌, ◌*◌, ◌^◌, ◌≤◌};
-ghost use Rattle.pixels.specs.Refusals.{sized_number, sized_size, size_if};
+ghost use Rattle.pixels.specs.Refusals.{answer_number, sized_size, size_if};
 ghost use Rattle.pixels.specs.Sizes.{max_side, bad_side, bad_size, size_of, rect_of, size_number, derived_side, scaled_number, scaled_size};
 
-use crate::{Dimensions, MAX_DIMENSION, Rect, Refusal, Sized};
+use crate::{Dimensions, MAX_DIMENSION, Rect, Refusal};
 
 // A side is 0 or above the limit. Rules out: a side of twice the limit passed; a side of 16,384 refused.
 pub fn bad_side(side: u64) -> bool
@@ -38,15 +38,15 @@ fn derived(own: u32, across: u32, side: u32, other: u64) -> u64
 
 impl Dimensions {
     // The Rust's Dimensions::new. Rules out: only the width tested; the sides exchanged.
-    pub fn new(width: u32, height: u32) -> Sized
-        ensures number { sized_number result ≡ size_number (size_of width height) }
+    pub fn new(width: u32, height: u32) -> Result<Dimensions, Refusal>
+        ensures number { answer_number result ≡ size_number (size_of width height) }
         ensures size { sized_size result ≡ size_if (size_number (size_of width height)) (size_of width height) }
     {
         let size = Dimensions { width, height };
         if bad_size(size) {
-            return Sized::Refused(Refusal::InvalidDimensions);
+            return Err(Refusal::InvalidDimensions);
         }
-        Sized::Size(size)
+        Ok(size)
     }
 
     // The Rust's pixel_count. Rules out: a product that wraps at 32 bits; half the pixels.
@@ -58,22 +58,22 @@ impl Dimensions {
 
     // The Rust's scaled, libwebp's WebPRescalerGetScaledDimensions: an axis of 0 is derived from the other.
     // Rules out: a derived side rounded down; the ratio upside down.
-    pub fn scaled(self, width: u32, height: u32) -> Sized
-        ensures number { sized_number result ≡ scaled_number self width height }
+    pub fn scaled(self, width: u32, height: u32) -> Result<Dimensions, Refusal>
+        ensures number { answer_number result ≡ scaled_number self width height }
         ensures size { sized_size result ≡ size_if (scaled_number self width height) (scaled_size self width height) }
     {
         if bad_size(self) {
-            return Sized::Refused(Refusal::InvalidDimensions);
+            return Err(Refusal::InvalidDimensions);
         }
         let w = derived(self.width, self.height, width, height as u64);
         let h = derived(self.height, self.width, height, w);
         if bad_side(w) {
-            return Sized::Refused(Refusal::InvalidDimensions);
+            return Err(Refusal::InvalidDimensions);
         }
         if bad_side(h) {
-            return Sized::Refused(Refusal::InvalidDimensions);
+            return Err(Refusal::InvalidDimensions);
         }
-        Sized::Size(Dimensions {
+        Ok(Dimensions {
             width: w as u32,
             height: h as u32,
         })
@@ -86,10 +86,10 @@ impl Rect {
         ensures { result ≡ rect_of x y width height }
     {
         Rect {
-            x: x,
-            y: y,
-            width: width,
-            height: height,
+            x,
+            y,
+            width,
+            height,
         }
     }
 }

@@ -2,11 +2,11 @@
 #![tactic(auto)]
 
 ghost use Rattle.std.specs.Prelude.{◌≡◌, ◌*◌, ◌/◌, length};
-ghost use Rattle.pixels.specs.Refusals.{checked_number, flagged_number, flagged_flag};
+ghost use Rattle.pixels.specs.Refusals.{answer_number, flagged_flag};
 ghost use Rattle.pixels.specs.Sizes.{pixel_lanes};
 ghost use Rattle.pixels_alpha.specs.Alpha.{has_alpha, picture_number, picture_flag, with_alpha, alpha_number, alpha_pixels, alpha_flag};
 
-use pixels::{Checked, Dimensions, Flagged, PIXEL_LANES, Refusal, bad_size};
+use pixels::{Dimensions, PIXEL_LANES, Refusal, bad_size};
 use pixels_layout::PixelLayout;
 use pixels_sizes::wrong_length;
 
@@ -16,61 +16,51 @@ pub fn has_alpha(layout: PixelLayout, bytes: &[u8]) -> bool
 {
     let a = layout.alpha_byte_offset();
     let n = bytes.len() / PIXEL_LANES;
-    let mut i = 0;
-    while i < n {
+    for i in 0..n {
         let at = PIXEL_LANES * i + a;
         if bytes[at] != 255 {
             return true;
         }
-        i += 1;
     }
     false
 }
 
 // Numbers 1 and 3, in that order, of a picture of the size in n bytes. Rules out: 3 told before 1; a bad size told 3.
-pub fn check_picture(size: Dimensions, n: usize) -> Checked
-    ensures { checked_number result ≡ picture_number size n }
+pub fn check_picture(size: Dimensions, n: usize) -> Result<(), Refusal>
+    ensures { answer_number result ≡ picture_number size n }
 {
     if bad_size(size) {
-        return Checked::Refused(Refusal::InvalidDimensions);
+        return Err(Refusal::InvalidDimensions);
     }
     if wrong_length(n, size) {
-        return Checked::Refused(Refusal::PixelBufferMismatch);
+        return Err(Refusal::PixelBufferMismatch);
     }
-    Checked::Fit
+    Ok(())
 }
 
 // The same, then 3 of a plane of m bytes.
-fn check_alpha(size: Dimensions, n: usize, m: usize) -> Checked
-    ensures { checked_number result ≡ alpha_number size n m }
+fn check_alpha(size: Dimensions, n: usize, m: usize) -> Result<(), Refusal>
+    ensures { answer_number result ≡ alpha_number size n m }
 {
-    let checked = check_picture(size, n);
-    match checked {
-        Checked::Refused(why) => {
-            return Checked::Refused(why);
-        }
-        Checked::Fit => {}
-    }
+    check_picture(size, n)?;
     if m as u64 != size.pixel_count() {
-        return Checked::Refused(Refusal::PixelBufferMismatch);
+        return Err(Refusal::PixelBufferMismatch);
     }
-    Checked::Fit
+    Ok(())
 }
 
 // The flag of a picture, as the Rust's Image::new derives it. Rules out: the flag of one layout for all; the flag turned round.
-pub fn picture_has_alpha(size: Dimensions, layout: PixelLayout, pixels: &[u8]) -> Flagged
-    ensures number { flagged_number result ≡ picture_number size (length pixels.now) }
+pub fn picture_has_alpha(
+    size: Dimensions,
+    layout: PixelLayout,
+    pixels: &[u8],
+) -> Result<bool, Refusal>
+    ensures number { answer_number result ≡ picture_number size (length pixels.now) }
     ensures flag { flagged_flag result ≡ picture_flag size layout pixels.now }
 {
-    let checked = check_picture(size, pixels.len());
-    match checked {
-        Checked::Refused(why) => {
-            return Flagged::Refused(why);
-        }
-        Checked::Fit => {}
-    }
+    check_picture(size, pixels.len())?;
     let flag = has_alpha(layout, pixels);
-    Flagged::Flag(flag)
+    Ok(flag)
 }
 
 // Writes the plane's bytes to the alpha places.
@@ -79,11 +69,9 @@ fn put_alpha(layout: PixelLayout, pixels: &mut [u8], plane: &[u8])
     ensures { pixels.new ≡ with_alpha layout pixels.old plane.now }
 {
     let alpha = layout.alpha_byte_offset();
-    let mut i = 0;
-    while i < plane.len() {
+    for i in 0..plane.len() {
         let to = PIXEL_LANES * i + alpha;
         pixels[to] = plane[i];
-        i += 1;
     }
 }
 
@@ -94,18 +82,12 @@ pub fn apply_alpha_plane(
     layout: PixelLayout,
     pixels: &mut [u8],
     plane: &[u8],
-) -> Flagged
-    ensures number { flagged_number result ≡ alpha_number size (length pixels.old) (length plane.now) }
+) -> Result<bool, Refusal>
+    ensures number { answer_number result ≡ alpha_number size (length pixels.old) (length plane.now) }
     ensures flag { flagged_flag result ≡ alpha_flag size layout pixels.old plane.now }
     ensures pixels { pixels.new ≡ alpha_pixels size layout pixels.old plane.now }
 {
-    let checked = check_alpha(size, pixels.len(), plane.len());
-    match checked {
-        Checked::Refused(why) => {
-            return Flagged::Refused(why);
-        }
-        Checked::Fit => {}
-    }
+    check_alpha(size, pixels.len(), plane.len())?;
     put_alpha(layout, pixels, plane);
-    Flagged::Flag(has_alpha(layout, pixels))
+    Ok(has_alpha(layout, pixels))
 }

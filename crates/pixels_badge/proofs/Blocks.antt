@@ -1,9 +1,10 @@
 -- A block of a background blended, two bytes a turn. Assumes nothing.
 use Prim.Native.Nat.{ℕ, ◌+◌, ◌*◌, ◌/◌, ◌%◌, ◌^◌, ◌≤◌, ◌<◌}
 use mathlib.Core.Path.{◌≡◌, refl, sym, ap, ◌∙◌}
-use mathlib.Core.List.{List}
+use mathlib.Core.List.{List, [], ◌∷◌}
 use native.Mathlib.Omega.{arith}
 use lib.ListN.{length, get_or, set}
+use Rattle.std.specs.Int.{w16, to_le_bytes, from_le_bytes}
 use Rattle.arithmetic.proofs.Stores.{Stored, none_stored, store, place, same, ahead, filled}
 use Rattle.pixels_badge.specs.Badge.{blended}
 use Rattle.pixels_badge.specs.Inner.{pair_at, put_pair, blended_pair, blended_in, blended_block, BlockAsks}
@@ -18,9 +19,16 @@ high_of : (s : List ℕ) (x : ℕ) → get_or s x 0 ≤ 255 → pair_at s x / 25
 unfolding pair_at
 high_of s x h = omega arith
 
-pub pair_put : (s : List ℕ) (x v : ℕ) → set (set s x (v % 256)) (x + 1) (v / 256) ≡ put_pair s x v
+pub pair_is : (s : List ℕ) (x : ℕ) {v : ℕ} → v ≡ from_le_bytes w16 (get_or s x 0 ∷ get_or s (x + 1) 0 ∷ []) → v ≡ pair_at s x
+unfolding pair_at
+pair_is s x e = e ∙ omega arith
+
+pub pair_put : (s bytes : List ℕ) (x v : ℕ) → v < 2 ^ 16 → bytes ≡ to_le_bytes w16 v → set (set s x (get_or bytes 0 0)) (x + 1) (get_or bytes 1 0) ≡ put_pair s x v
 unfolding put_pair
-pair_put s x v = refl
+pair_put s bytes x v small e =
+    let low : get_or bytes 0 0 ≡ v % 256 = rw e refl in
+    let high : get_or bytes 1 0 ≡ v / 256 = rw e (omega arith) in
+    rw (low, high) refl
 
 -- ---- two bytes blended
 module _ (alpha over under : ℕ) (h : over < 2 ^ 16) (k : under < 2 ^ 16) where

@@ -1,7 +1,7 @@
 -- What two pictures that pass have: their lengths, one size, and an opaque background. Assumes nothing.
 use Prim.Native.Nat.{ℕ, ◌*◌, ◌/◌}
 use mathlib.Core.Path.{◌≡◌, refl, sym, ap, ◌∙◌}
-use mathlib.Core.Bool.{Bool, false, not}
+use mathlib.Core.Bool.{Bool, true, false, not, ◌&&◌, ◌||◌}
 use mathlib.Core.List.{List}
 use native.Mathlib.Omega.{arith}
 use lib.Dec.{eqb}
@@ -12,7 +12,7 @@ use Rattle.pixels.proofs.Truths.{neither_true, same_of}
 use Rattle.pixels.proofs.Causes.{Pass, none_applies}
 use Rattle.pixels_layout.specs.declared.PixelLayout.{PixelLayout}
 use Rattle.pixels_alpha.specs.Alpha.{has_alpha}
-use Rattle.pixels_badge.specs.Badge.{both_causes, both_number, badge_causes, badge_number}
+use Rattle.pixels_badge.specs.Badge.{other_size, both_causes, both_number, badge_causes, badge_number}
 use Rattle.pixels_badge.specs.Inner.{LayAsks}
 
 -- a length that is a picture's is that of so many pixels
@@ -62,3 +62,11 @@ module _ (size : Dimensions) (layout : PixelLayout) (pixels : List ℕ) (badgeSi
       let f = picture_fits in
       let q : length pixels / pixel_lanes ≡ size.width * size.height = omega (arith, f.long) in
       record { long = omega (arith, f.long); alike = badge_alike; opaque = ap (has_alpha layout pixels) q ∙ f.opaque }
+
+-- two sizes that are not the same are others: as the library compares them
+pub sizes_differ : (a b : Dimensions) → not (eqb a.width b.width && eqb a.height b.height) ≡ other_size a b
+sizes_differ a b = by (eqb a.width b.width) (eqb a.height b.height)
+  where
+    by : (p q : Bool) → not (p && q) ≡ (not p || not q)
+    by true q = refl
+    by false q = refl

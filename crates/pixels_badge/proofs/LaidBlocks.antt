@@ -1,7 +1,7 @@
 -- The blocks of a badge, turned, and of its background, blended, are the bytes of the result; and the loop over blocks. Assumes nothing.
 use Prim.Native.Nat.{ℕ, ◌+◌, ◌-◌, ◌*◌, ◌/◌, ◌%◌, ◌≤◌, ◌<◌, min}
 use mathlib.Core.Path.{◌≡◌, refl, sym, ap, ◌∙◌}
-use mathlib.Core.Bool.{Bool, true, false, cond}
+use mathlib.Core.Bool.{true, false}
 use mathlib.Core.Logic.{◌⊎◌, inl, inr}
 use mathlib.Core.List.{List, ◌++◌}
 use native.Mathlib.Omega.{arith}
@@ -18,7 +18,6 @@ use Rattle.pixels.proofs.Truths.{test}
 use Rattle.pixels_layout.specs.declared.PixelLayout.{PixelLayout}
 use Rattle.pixels_layout.specs.Layout.{alpha_lane, place_of, lane_at, alpha_at}
 use Rattle.pixels_layout.proofs.Tabled.{place_lt, place_twice}
-use Rattle.pixels_alpha.specs.Alpha.{has_alpha}
 use Rattle.pixels_badge.specs.Badge.{blended, laid_lane, laid_byte, laid}
 use Rattle.pixels_badge.specs.Inner.{alpha_in, colour_in, filled_by, blended_in, blended_block, block_bytes, TurnAsks, BlockAsks, LayAsks}
 use Rattle.pixels_badge.proofs.Sums.{blended_whole, colour_laid}

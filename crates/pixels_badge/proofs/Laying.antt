@@ -1,11 +1,10 @@
 -- The bytes of the result: each lane is laid on the lane of the same pixel, whatever the two layouts, and the result is opaque. Assumes nothing.
-use Prim.Native.Nat.{ℕ, zero, suc, ◌+◌, ◌*◌, ◌/◌, ◌%◌, ◌≤◌, ◌<◌}
-use mathlib.Core.Path.{◌≡◌, refl, sym, ap, ◌∙◌}
+use Prim.Native.Nat.{ℕ, zero, suc, ◌+◌, ◌*◌, ◌/◌, ◌%◌, ◌<◌}
+use mathlib.Core.Path.{◌≡◌, refl, ap, ◌∙◌}
 use mathlib.Core.Bool.{false}
 use mathlib.Core.List.{List}
 use native.Mathlib.Omega.{arith}
 use lib.ListN.{length}
-use Rattle.arithmetic.specs.Table.{tabulate}
 use Rattle.arithmetic.proofs.Tables.{length_tabulate, get_d_tabulate}
 use Rattle.pixels.specs.Sizes.{pixel_lanes}
 use Rattle.pixels_layout.specs.declared.PixelLayout.{PixelLayout}

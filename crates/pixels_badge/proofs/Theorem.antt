@@ -1,13 +1,12 @@
 -- The theorem of the badge. Assumes nothing.
-use Prim.Native.Nat.{ℕ, ◌*◌, ◌<◌}
+use Prim.Native.Nat.{ℕ, ◌*◌}
 use mathlib.Core.Path.{◌≡◌, sym, ◌∙◌, subst}
 use mathlib.Core.List.{List}
 use native.Mathlib.Omega.{arith}
 use lib.ListN.{length}
 use Rattle.pixels.specs.declared.Dimensions.{Dimensions}
-use Rattle.pixels.specs.Sizes.{pixel_lanes}
 use Rattle.pixels_layout.specs.declared.PixelLayout.{PixelLayout}
-use Rattle.pixels_layout.specs.Layout.{alpha_lane, lane_at, alpha_at}
+use Rattle.pixels_layout.specs.Layout.{lane_at, alpha_at}
 use Rattle.pixels_badge.specs.Badge.{laid, badge_number, badge_out}
 use Rattle.pixels_badge.specs.Claim.{AllBytes, LaidClaim, BadgeTheorem}
 use Rattle.pixels_badge.proofs.Sums.{blended_most, colour_laid}

@@ -1,19 +1,16 @@
 -- A block of a badge turned into the background's order, with its alphas beside it, a pixel a turn. Assumes nothing.
 use Prim.Native.Nat.{ℕ, ◌+◌, ◌*◌, ◌/◌, ◌%◌, ◌^◌, ◌≤◌, ◌<◌}
-use mathlib.Core.Path.{◌≡◌, refl, sym, ap, ◌∙◌}
-use mathlib.Core.Bool.{Bool, true, false, cond}
-use mathlib.Core.Logic.{◌⊎◌, inl, inr}
+use mathlib.Core.Path.{◌≡◌, refl, ap, ◌∙◌}
+use mathlib.Core.Bool.{cond}
 use mathlib.Core.List.{List, [], ◌∷◌}
 use native.Mathlib.Omega.{arith}
 use native.Mathlib.Nat.{add-zero}
 use lib.Dec.{eqb}
-use lib.ListN.{length, get_or, set, drop}
-use borrow.Author.Tests.{eq-eqb, ne_eqb, eqb-true, eqb-false}
-use Rattle.arithmetic.specs.Matte.{lane_of, pixel_of}
+use lib.ListN.{length, get_or}
+use Rattle.arithmetic.specs.Matte.{lane_of}
 use Rattle.arithmetic.proofs.Mattes.{lane_byte_lem, pixel_lane}
 use Rattle.arithmetic.proofs.Stores.{Stored, none_stored, store_four, same, all_stored}
 use Rattle.pixels.specs.Sizes.{pixel_lanes}
-use Rattle.pixels.proofs.Truths.{test}
 use Rattle.pixels_layout.specs.declared.PixelLayout.{PixelLayout}
 use Rattle.pixels_layout.specs.Layout.{alpha_lane, place_of, lane_at, alpha_at}
 use Rattle.pixels_layout.proofs.Tabled.{each_lane, place_lt}

@@ -2,31 +2,26 @@
 #![tactic(auto)]
 
 ghost use Rattle.std.specs.Prelude.{◌≡◌, ◌+◌, ◌*◌, ◌/◌, ◌^◌, ◌≤◌, min, length};
-ghost use Rattle.pixels.specs.Refusals.{checked_number};
+ghost use Rattle.pixels.specs.Refusals.{answer_number};
 ghost use Rattle.pixels.specs.Sizes.{pixel_lanes};
 ghost use Rattle.pixels_alpha.specs.Alpha.{has_alpha};
 ghost use Rattle.pixels_badge.specs.Badge.{blended, laid, both_number, other_size, badge_number, badge_out};
 ghost use Rattle.pixels_badge.specs.Inner.{word_at, put_word, LanesAre, opaque_word, filled_by, alpha_in, colour_in, TurnAsks, pair_at, put_pair, blended_pair, blended_block, BlockAsks, block_bytes, LayAsks};
 
 use arithmetic::matte;
-use pixels::{Checked, Dimensions, PIXEL_LANES, Refusal, bad_size};
+use pixels::{Dimensions, PIXEL_LANES, Refusal, bad_size};
 use pixels_layout::PixelLayout;
 use pixels_sizes::wrong_length;
 
 // ---- a pixel as a word, its first byte the lowest. Of words the compiler makes vectors, of bytes at a pixel's places it makes none.
-
-fn joined(p: u8, q: u8, s: u8, t: u8) -> u32
-    ensures { result ≡ p + 2 ^ 8 * q + 2 ^ 16 * s + 2 ^ 24 * t }
-{
-    p as u32 + 256 * q as u32 + 65536 * s as u32 + 16777216 * t as u32
-}
+// Kept beside those of rows_restoring: a function with a `requires` is called within its crate alone.
 
 // The pixel whose bytes stand from `at` on.
 fn word(bytes: &[u8], at: usize) -> u32
     requires { at + pixel_lanes ≤ length bytes.now }
     ensures { result ≡ word_at bytes.now at }
 {
-    joined(bytes[at], bytes[at + 1], bytes[at + 2], bytes[at + 3])
+    u32::from_le_bytes([bytes[at], bytes[at + 1], bytes[at + 2], bytes[at + 3]])
 }
 
 // Stores the bytes of a pixel from `at` on.
@@ -34,10 +29,12 @@ fn put_word(bytes: &mut [u8], at: usize, w: u32)
     requires { at + pixel_lanes ≤ length bytes.old }
     ensures { bytes.new ≡ put_word bytes.old at w }
 {
-    bytes[at] = (w % 256) as u8;
-    bytes[at + 1] = (w / 256 % 256) as u8;
-    bytes[at + 2] = (w / 65536 % 256) as u8;
-    bytes[at + 3] = (w / 16777216) as u8;
+    // Kept: four stores. copy_from_slice tests whether the two places overlap, and the compiler then makes no vectors.
+    let [p, q, s, t] = w.to_le_bytes();
+    bytes[at] = p;
+    bytes[at + 1] = q;
+    bytes[at + 2] = s;
+    bytes[at + 3] = t;
 }
 
 #[derive(Clone, Copy)]
@@ -52,10 +49,7 @@ struct Lanes {
 fn lanes_of(layout: PixelLayout, w: u32) -> Lanes
     ensures { LanesAre layout w result.b result.g result.r result.a }
 {
-    let p = (w % 256) as u8;
-    let q = (w / 256 % 256) as u8;
-    let s = (w / 65536 % 256) as u8;
-    let t = (w / 16777216) as u8;
+    let [p, q, s, t] = w.to_le_bytes();
     match layout {
         PixelLayout::Rgba8 => Lanes {
             b: s,
@@ -83,9 +77,9 @@ fn opaque(layout: PixelLayout, b: u8, g: u8, r: u8) -> u32
     ensures { result ≡ opaque_word layout b g r }
 {
     match layout {
-        PixelLayout::Rgba8 => r as u32 + 256 * g as u32 + 65536 * b as u32 + 4278190080,
-        PixelLayout::Argb8 => 255 + 256 * r as u32 + 65536 * g as u32 + 16777216 * b as u32,
-        PixelLayout::Bgra8 => b as u32 + 256 * g as u32 + 65536 * r as u32 + 4278190080,
+        PixelLayout::Rgba8 => u32::from_le_bytes([r, g, b, 255]),
+        PixelLayout::Argb8 => u32::from_le_bytes([255, r, g, b]),
+        PixelLayout::Bgra8 => u32::from_le_bytes([b, g, r, 255]),
     }
 }
 
@@ -106,16 +100,16 @@ fn turn(layout: PixelLayout, from: PixelLayout, badge: &[u8], alphas: &mut [u8],
     ensures alphas { alphas.new ≡ filled_by (alpha_in from badge.now) (length badge.now) alphas.old }
     ensures colours { colours.new ≡ filled_by (colour_in layout from badge.now) (length badge.now) colours.old }
 {
-    let mut at = 0usize;
-    while at < badge.len() {
+    for i in 0..badge.len() / PIXEL_LANES {
+        let at = PIXEL_LANES * i;
         let l = lanes_of(from, word(badge, at));
         put_word(alphas, at, 65537 * l.a as u32);
         put_word(colours, at, opaque(layout, l.b, l.g, l.r));
-        at += PIXEL_LANES;
     }
 }
 
 // The loop for each pair of layouts: named here, before the loop, the compiler makes a loop of each with the lanes' places written into it.
+// Kept: with const parameters, or a closure for each layout, the nine pairs would be named here all the same.
 fn turn_by(layout: PixelLayout, from: PixelLayout, badge: &[u8], a: &mut [u8], c: &mut [u8])
     requires { TurnAsks badge.now a.old c.old }
     ensures a { a.new ≡ filled_by (alpha_in from badge.now) (length badge.now) a.old }
@@ -142,18 +136,12 @@ fn turn_by(layout: PixelLayout, from: PixelLayout, badge: &[u8], a: &mut [u8], c
 
 // ---- the background, two bytes a turn, all lanes alike: of two alphas of 255, matted by alphas that sum to 255, comes 255
 
-fn two(p: u8, q: u8) -> u16
-    ensures { result ≡ p + 256 * q }
-{
-    p as u16 + 256 * q as u16
-}
-
 // The two bytes from `at` on as a number.
 fn pair(bytes: &[u8], at: usize) -> u16
     requires { at + 2 ≤ length bytes.now }
     ensures { result ≡ pair_at bytes.now at }
 {
-    two(bytes[at], bytes[at + 1])
+    u16::from_le_bytes([bytes[at], bytes[at + 1]])
 }
 
 // Stores the two bytes of a number from `at` on.
@@ -161,44 +149,35 @@ fn put_pair(bytes: &mut [u8], at: usize, v: u16)
     requires { at + 2 ≤ length bytes.old }
     ensures { bytes.new ≡ put_pair bytes.old at v }
 {
-    bytes[at] = (v % 256) as u8;
-    bytes[at + 1] = (v / 256) as u8;
+    let [low, high] = v.to_le_bytes();
+    bytes[at] = low;
+    bytes[at + 1] = high;
 }
 
 // Two bytes of a badge over two of a background, by the alpha in the low byte of `alpha`.
 fn blend_pair(alpha: u16, over: u16, under: u16) -> u16
     ensures { result ≡ blended_pair alpha over under }
 {
-    let a = (alpha % 256) as u8;
-    let low = blend(a, (over % 256) as u8, (under % 256) as u8);
-    let high = blend(a, (over / 256) as u8, (under / 256) as u8);
-    (low + 256 * high) as u16
+    let [a, _] = alpha.to_le_bytes();
+    let [over_low, over_high] = over.to_le_bytes();
+    let [under_low, under_high] = under.to_le_bytes();
+    let low = blend(a, over_low, under_low) as u8;
+    let high = blend(a, over_high, under_high) as u8;
+    u16::from_le_bytes([low, high])
 }
 
 fn blend_block(pixels: &mut [u8], alphas: &[u8], colours: &[u8])
     requires { BlockAsks pixels.old alphas.now colours.now }
     ensures { pixels.new ≡ blended_block pixels.old alphas.now colours.now }
 {
-    let mut x = 0usize;
-    while x < pixels.len() {
+    for i in 0..pixels.len() / 2 {
+        let x = 2 * i;
         put_pair(
             pixels,
             x,
             blend_pair(pair(alphas, x), pair(colours, x), pair(pixels, x)),
         );
-        x += 2;
     }
-}
-
-// Where the block from `at` on ends, of n bytes.
-fn block_end(n: usize, at: usize) -> usize
-    requires { at ≤ n }
-    ensures { result ≡ min n (at + block_bytes) }
-{
-    if n - at < 256 {
-        return n;
-    }
-    at + 256
 }
 
 // The badge laid on the background, block by block.
@@ -209,41 +188,37 @@ fn lay(layout: PixelLayout, pixels: &mut [u8], from: PixelLayout, badge: &[u8])
     let n = pixels.len();
     let mut alphas = [0u8; 256];
     let mut colours = [0u8; 256];
-    let mut at = 0usize;
-    while at < n {
-        let end = block_end(n, at);
+    for block in 0..n.div_ceil(256) {
+        let at = 256 * block;
+        let end = n.min(at + 256);
         turn_by(layout, from, &badge[at..end], &mut alphas, &mut colours);
         blend_block(&mut pixels[at..end], &alphas, &colours);
-        at = end;
     }
 }
 
 // Numbers 1 and 3 in that order, each over both pictures; n and m are the bytes of the background and of the badge.
-fn check_both(size: Dimensions, n: usize, badge_size: Dimensions, m: usize) -> Checked
-    ensures { checked_number result ≡ both_number size n badge_size m }
+fn check_both(size: Dimensions, n: usize, badge_size: Dimensions, m: usize) -> Result<(), Refusal>
+    ensures { answer_number result ≡ both_number size n badge_size m }
 {
     if bad_size(size) {
-        return Checked::Refused(Refusal::InvalidDimensions);
+        return Err(Refusal::InvalidDimensions);
     }
     if bad_size(badge_size) {
-        return Checked::Refused(Refusal::InvalidDimensions);
+        return Err(Refusal::InvalidDimensions);
     }
     if wrong_length(n, size) {
-        return Checked::Refused(Refusal::PixelBufferMismatch);
+        return Err(Refusal::PixelBufferMismatch);
     }
     if wrong_length(m, badge_size) {
-        return Checked::Refused(Refusal::PixelBufferMismatch);
+        return Err(Refusal::PixelBufferMismatch);
     }
-    Checked::Fit
+    Ok(())
 }
 
 fn other_size(a: Dimensions, b: Dimensions) -> bool
     ensures { result ≡ other_size a b }
 {
-    if a.width != b.width {
-        return true;
-    }
-    a.height != b.height
+    a != b
 }
 
 // Whether some pixel isn't opaque: a byte of all pixels' words and-ed is 255 exactly if each pixel's is. The compiler ands four pixels at once.
@@ -252,10 +227,8 @@ fn some_clear(layout: PixelLayout, pixels: &[u8]) -> bool
     ensures { result ≡ has_alpha layout pixels.now (length pixels.now / pixel_lanes) }
 {
     let mut all = 4294967295u32;
-    let mut x = 0usize;
-    while x < pixels.len() {
-        all = all & word(pixels, x);
-        x += PIXEL_LANES;
+    for i in 0..pixels.len() / PIXEL_LANES {
+        all = all & word(pixels, PIXEL_LANES * i);
     }
     lanes_of(layout, all).a != 255
 }
@@ -267,23 +240,17 @@ fn check_badge(
     pixels: &[u8],
     badge_size: Dimensions,
     m: usize,
-) -> Checked
-    ensures { checked_number result ≡ badge_number size layout pixels.now badge_size m }
+) -> Result<(), Refusal>
+    ensures { answer_number result ≡ badge_number size layout pixels.now badge_size m }
 {
-    let checked = check_both(size, pixels.len(), badge_size, m);
-    match checked {
-        Checked::Refused(why) => {
-            return Checked::Refused(why);
-        }
-        Checked::Fit => {}
-    }
+    check_both(size, pixels.len(), badge_size, m)?;
     if other_size(size, badge_size) {
-        return Checked::Refused(Refusal::UnequalSizes);
+        return Err(Refusal::UnequalSizes);
     }
     if some_clear(layout, pixels) {
-        return Checked::Refused(Refusal::BackgroundNotOpaque);
+        return Err(Refusal::BackgroundNotOpaque);
     }
-    Checked::Fit
+    Ok(())
 }
 
 // Lays a badge on an opaque background of the same size, in the background's place and layout; the badge may have another layout. A refusal leaves the
@@ -295,17 +262,11 @@ pub fn lay_badge(
     badge_size: Dimensions,
     badge_layout: PixelLayout,
     badge: &[u8],
-) -> Checked
-    ensures number { checked_number result ≡ badge_number size layout pixels.old badge_size (length badge.now) }
+) -> Result<(), Refusal>
+    ensures number { answer_number result ≡ badge_number size layout pixels.old badge_size (length badge.now) }
     ensures pixels { pixels.new ≡ badge_out size layout pixels.old badge_size badge_layout badge.now }
 {
-    let checked = check_badge(size, layout, pixels, badge_size, badge.len());
-    match checked {
-        Checked::Refused(why) => {
-            return Checked::Refused(why);
-        }
-        Checked::Fit => {}
-    }
+    check_badge(size, layout, pixels, badge_size, badge.len())?;
     lay(layout, pixels, badge_layout, badge);
-    Checked::Fit
+    Ok(())
 }

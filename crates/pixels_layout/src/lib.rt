@@ -7,7 +7,7 @@ ghost use Rattle.pixels.specs.Sizes.{pixel_lanes};
 ghost use Rattle.pixels_layout.specs.Layout.{row_of, place_of, places_of, alpha_lane, packed, unpacked};
 
 // The order of a pixel's bytes.
-#[derive(Clone, Copy)]
+#[derive(Clone, Copy, PartialEq, Eq)]
 pub enum PixelLayout {
     Rgba8,
     Argb8,
@@ -27,43 +27,12 @@ pub struct Places {
 // also says which lane stands at each place.
 const LANES: [[usize; 4]; 3] = [[2, 1, 0, 3], [3, 2, 1, 0], [0, 1, 2, 3]];
 
-fn row(layout: PixelLayout) -> usize
-    ensures { result ≡ row_of layout }
-{
-    match layout {
-        PixelLayout::Rgba8 => 0,
-        PixelLayout::Argb8 => 1,
-        PixelLayout::Bgra8 => 2,
-    }
-}
-
 fn place(layout: PixelLayout, k: usize) -> usize
     requires { k < pixel_lanes }
     ensures is { result ≡ place_of layout k }
     ensures within { result < pixel_lanes }
 {
-    let i = row(layout);
-    LANES[i][k]
-}
-
-// Lane k of a pixel AARRGGBB, counted from the lowest byte.
-fn lane(argb: u32, k: usize) -> u8
-    requires { k < pixel_lanes }
-    ensures { result ≡ lane_of argb k }
-{
-    match k {
-        0 => (argb % 256) as u8,
-        1 => (argb / 256 % 256) as u8,
-        2 => (argb / 65536 % 256) as u8,
-        _ => (argb / 16777216) as u8,
-    }
-}
-
-// The pixel AARRGGBB of its four lanes.
-fn word(b: u8, g: u8, r: u8, a: u8) -> u32
-    ensures { result ≡ b + 2 ^ 8 * g + 2 ^ 16 * r + 2 ^ 24 * a }
-{
-    b as u32 + 256 * g as u32 + 65536 * r as u32 + 16777216 * a as u32
+    LANES[layout as usize][k]
 }
 
 impl PixelLayout {
@@ -83,11 +52,12 @@ impl PixelLayout {
     pub fn pack(self, argb: u32) -> [u8; 4]
         ensures { result ≡ packed self argb }
     {
+        let lanes = argb.to_le_bytes();
         [
-            lane(argb, place(self, 0)),
-            lane(argb, place(self, 1)),
-            lane(argb, place(self, 2)),
-            lane(argb, place(self, 3)),
+            lanes[place(self, 0)],
+            lanes[place(self, 1)],
+            lanes[place(self, 2)],
+            lanes[place(self, 3)],
         ]
     }
 
@@ -99,7 +69,7 @@ impl PixelLayout {
         let g = place(self, 1);
         let r = place(self, 2);
         let a = place(self, 3);
-        word(px[b], px[g], px[r], px[a])
+        u32::from_le_bytes([px[b], px[g], px[r], px[a]])
     }
 
     // The Rust's alpha_byte_offset, written out; it agrees with the table. Rules out: alpha last in every layout; alpha first in Bgra8.

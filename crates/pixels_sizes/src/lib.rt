@@ -2,10 +2,10 @@
 #![tactic(auto)]
 
 ghost use Rattle.std.specs.Prelude.{◌≡◌, not, eqb};
-ghost use Rattle.pixels.specs.Refusals.{checked_number};
+ghost use Rattle.pixels.specs.Refusals.{answer_number};
 ghost use Rattle.pixels.specs.Sizes.{pixel_lanes, picture_bytes, bad_sizes, crop_beyond, bad_lanes, sizes_number};
 
-use pixels::{Checked, Dimensions, MAX_LANES, PIXEL_LANES, Rect, Refusal, bad_size};
+use pixels::{Dimensions, MAX_LANES, PIXEL_LANES, Rect, Refusal, bad_size};
 
 // Number 1 of a source, its crop and a target. Rules out: an empty crop let through; the target not tested.
 pub fn wrong_sizes(source: Dimensions, crop: Rect, target: Dimensions) -> bool
@@ -35,16 +35,16 @@ pub fn crop_beyond(crop: Rect, source: Dimensions) -> bool
 
 // Numbers 1 and 2 of a source, its crop and a target: crop, resize and the record rules ask here.
 // Rules out: 2 told before 1; every size refused.
-pub fn check_sizes(source: Dimensions, crop: Rect, target: Dimensions) -> Checked
-    ensures { checked_number result ≡ sizes_number source crop target }
+pub fn check_sizes(source: Dimensions, crop: Rect, target: Dimensions) -> Result<(), Refusal>
+    ensures { answer_number result ≡ sizes_number source crop target }
 {
     if wrong_sizes(source, crop, target) {
-        return Checked::Refused(Refusal::InvalidDimensions);
+        return Err(Refusal::InvalidDimensions);
     }
     if crop_beyond(crop, source) {
-        return Checked::Refused(Refusal::CropOutOfBounds);
+        return Err(Refusal::CropOutOfBounds);
     }
-    Checked::Fit
+    Ok(())
 }
 
 // A plane of no lanes, or of more than MAX_LANES: number 10. Rules out: a plane of no lanes passed; one of four refused.

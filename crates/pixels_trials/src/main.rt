@@ -2,7 +2,7 @@
 // The file `stdout` holds what SCOPE says.
 #![tactic(auto)]
 
-use pixels::{Checked, Dimensions, Flagged, Rect, Sized};
+use pixels::{Dimensions, Rect, Refusal};
 use pixels_layout::PixelLayout;
 use pixels_sizes::check_sizes;
 use std::io;
@@ -11,9 +11,9 @@ fn main(rt: HostRuntime) -> io::Result<()> {
     sizes(&rt)?;
     limits(&rt)?;
     crops(&rt)?;
-    layout(&rt, PixelLayout::Rgba8)?;
-    layout(&rt, PixelLayout::Argb8)?;
-    layout(&rt, PixelLayout::Bgra8)?;
+    for l in [PixelLayout::Rgba8, PixelLayout::Argb8, PixelLayout::Bgra8] {
+        layout(&rt, l)?;
+    }
     slices(&rt)?;
     pictures(&rt)
 }
@@ -78,16 +78,11 @@ fn crop_checked(rt: &impl Print, crop: Rect, target_width: u32) -> io::Result<()
 // A pixel packed and unpacked, and the place of its alpha.
 fn layout(rt: &impl Print, l: PixelLayout) -> io::Result<()> {
     let px = l.pack(0x1122_3344);
-    four(rt, px)?;
+    for b in px {
+        byte(rt, b)?;
+    }
     line(rt, l.unpack(px))?;
     count(rt, l.alpha_byte_offset())
-}
-
-fn four(rt: &impl Print, px: [u8; 4]) -> io::Result<()> {
-    byte(rt, px[0])?;
-    byte(rt, px[1])?;
-    byte(rt, px[2])?;
-    byte(rt, px[3])
 }
 
 // ---- slices
@@ -197,40 +192,44 @@ fn plane(rt: &impl Print, pixels: &mut [u8], alphas: &[u8]) -> io::Result<()> {
 
 // ---- writing
 
-fn checked(rt: &impl Print, r: Checked) -> io::Result<()> {
+// The number of an answer, and where it went through what `values` writes of it.
+fn answer<T: Drop, F: Fn(T) -> io::Result<()>>(
+    rt: &impl Print,
+    r: Result<T, Refusal>,
+    values: F,
+) -> io::Result<()>
+    requires { F.IsAlwaysCallable values }
+{
     match r {
-        Checked::Fit => line(rt, 0),
-        Checked::Refused(why) => line(rt, why.number()),
+        Ok(value) => {
+            line(rt, 0)?;
+            values(value)
+        }
+        Err(why) => line(rt, why.number()),
     }
 }
 
-fn sized(rt: &impl Print, r: Sized) -> io::Result<()> {
-    match r {
-        Sized::Size(size) => {
-            line(rt, 0)?;
-            line(rt, size.width)?;
-            line(rt, size.height)
-        }
-        Sized::Refused(why) => line(rt, why.number()),
-    }
+fn checked(rt: &impl Print, r: Result<(), Refusal>) -> io::Result<()> {
+    answer(rt, r, |()| Ok(()))
 }
 
-fn flagged(rt: &impl Print, r: Flagged) -> io::Result<()> {
-    match r {
-        Flagged::Flag(on) => {
-            line(rt, 0)?;
-            flag(rt, on)
-        }
-        Flagged::Refused(why) => line(rt, why.number()),
-    }
+fn sized(rt: &impl Print, r: Result<Dimensions, Refusal>) -> io::Result<()> {
+    answer(rt, r, |size| {
+        line(rt, size.width)?;
+        line(rt, size.height)
+    })
+}
+
+fn flagged(rt: &impl Print, r: Result<bool, Refusal>) -> io::Result<()> {
+    answer(rt, r, |on| flag(rt, on))
 }
 
 fn flag(rt: &impl Print, on: bool) -> io::Result<()> {
-    if on { line(rt, 1) } else { line(rt, 0) }
+    line(rt, u32::from(on))
 }
 
 fn byte(rt: &impl Print, b: u8) -> io::Result<()> {
-    line(rt, b as u32)
+    line(rt, u32::from(b))
 }
 
 fn count(rt: &impl Print, n: usize) -> io::Result<()> {

@@ -2,19 +2,18 @@
 ghost use Rattle.std.specs.Prelude.{◌≤◌, length};
 
 use crate::{
-    Form, Out, TEXT, argument_count, argument_text, close, is_word, open_to, picture, preview_size,
-    read_whole, say, say_error, say_refusal, say_too_short, say_usage, standard_output, write_to,
+    Form, Named, Stopped, TEXT, argument_count, argument_text, close, is_word, next_of, open_to,
+    picture, preview_size, say, say_error, say_too_short, say_usage, stop, write_to,
 };
 use group::offer_group;
 use group_rules::{GROUP_LIMIT, Group};
 use group_start::start_group;
 use group_take::{group_ready, take_group};
 use job_rules::{Plan, row_bytes};
-use pam_parts::{head_of, tail_of};
-use pixels::{Checked, Dimensions, Rect, Sized};
-use preview_decimal::{NONE, number};
+use pixels::{Dimensions, Rect};
+use preview_decimal::number;
 use std::fs::File;
-use std::io::Write;
+use std::io::{Read, Write};
 use std::{array, io, str};
 
 // The work values of the most previews, each of the widest.
@@ -38,12 +37,10 @@ fn is_option(rt: &HostRuntime, i: usize) -> bool {
 
 pub(crate) fn words_of(rt: &HostRuntime) -> Words {
     let count = argument_count(rt);
-    let mut i = 1usize;
-    while i < count {
+    for i in 1..count {
         if is_option(rt, i) {
             return Words { count, before: i };
         }
-        i += 1;
     }
     Words {
         count,
@@ -51,71 +48,39 @@ pub(crate) fn words_of(rt: &HostRuntime) -> Words {
     }
 }
 
-// How many bytes there are up to the first such byte, itself counted; 0 where there is none.
-pub(crate) fn up_to(text: &[u8], byte: u8) -> usize {
-    let mut i = 0usize;
-    while i < text.len() {
-        if text[i] == byte {
-            return i + 1;
-        }
-        i += 1;
-    }
-    0
+// What stands before the first such byte and what follows it; none where there is none.
+pub(crate) fn split_at_byte(text: &[u8], byte: u8) -> Option<(&[u8], &[u8])> {
+    let at = text.iter().position(|b| *b == byte)?;
+    Some((&text[..at], &text[at + 1..]))
 }
 
-// A preview that is asked for: its sides as the words have them, and the argument that names its file; 0 is standard output. Not right where a word is wrong.
+// A preview that is asked for: its sides as the words have them, and the argument that names its file; none is standard output.
 #[derive(Clone, Copy)]
 pub struct Target {
-    pub right: bool,
     pub sides: Dimensions,
-    pub word: usize,
-}
-
-fn no_target() -> Target {
-    Target {
-        right: false,
-        sides: Dimensions {
-            width: 0,
-            height: 0,
-        },
-        word: 0,
-    }
+    pub word: Option<usize>,
 }
 
 // Of WIDTHxHEIGHT.
-fn target_of(text: &[u8], word: usize) -> Target {
-    let x = up_to(text, b'x');
-    if x == 0 {
-        return no_target();
-    }
-    let width = number(head_of(text, x - 1));
-    let height = number(tail_of(text, x));
-    if NONE <= width {
-        return no_target();
-    }
-    if NONE <= height {
-        return no_target();
-    }
-    Target {
-        right: true,
-        sides: Dimensions {
-            width: width as u32,
-            height: height as u32,
-        },
-        word,
-    }
+fn target_of(text: &[u8], word: usize) -> Option<Target> {
+    let (width, height) = split_at_byte(text, b'x')?;
+    let sides = Dimensions {
+        width: number(width)?,
+        height: number(height)?,
+    };
+    Some(Target {
+        sides,
+        word: Some(word),
+    })
 }
 
 // Of WIDTHxHEIGHT=FILE; the file has a name.
-fn named_target(text: &[u8], word: usize) -> Target {
-    let end = up_to(text, b'=');
-    if end == 0 {
-        return no_target();
+fn named_target(text: &[u8], word: usize) -> Option<Target> {
+    let (sides, file) = split_at_byte(text, b'=')?;
+    if file.is_empty() {
+        return None;
     }
-    if end == text.len() {
-        return no_target();
-    }
-    target_of(head_of(text, end - 1), word)
+    target_of(sides, word)
 }
 
 fn say_no_target(rt: &HostRuntime, text: &[u8]) {
@@ -125,21 +90,21 @@ fn say_no_target(rt: &HostRuntime, text: &[u8]) {
 }
 
 // Of argument `word`; where it is none, that is said.
-fn argument_target(rt: &HostRuntime, word: usize) -> Target {
+fn argument_target(rt: &HostRuntime, word: usize) -> Result<Target, Stopped> {
     let mut text = [0u8; TEXT];
     let n = argument_text(rt, word, &mut text);
-    let target = named_target(&text[..n], word);
-    if !target.right {
+    let Some(target) = named_target(&text[..n], word) else {
         say_no_target(rt, &text[..n]);
-    }
-    target
+        return Err(Stopped);
+    };
+    Ok(target)
 }
 
 // What --also, argument `option`, and the word after it ask for; what is wrong is said.
-fn read_target(rt: &HostRuntime, option: usize, word: usize) -> Target {
+fn read_target(rt: &HostRuntime, option: usize, word: usize) -> Result<Target, Stopped> {
     if !is_word(rt, option, b"--also") {
         say_usage(rt);
-        return no_target();
+        return Err(Stopped);
     }
     argument_target(rt, word)
 }
@@ -150,69 +115,51 @@ fn say_too_many(rt: &HostRuntime, count: usize) {
     );
 }
 
-// The previews that are asked for, the main one first, and the argument that names the badge's file; 0 where there is no badge. Not going where a word is wrong,
-// which was said.
+// The previews that are asked for, the main one first, and the argument that names the badge's file, where there is one.
 #[derive(Clone, Copy)]
 pub struct Asked {
-    pub going: bool,
-    pub badge: usize,
+    pub badge: Option<usize>,
     pub count: u32,
     pub targets: [Target; GROUP_LIMIT],
 }
 
 // --badge and one word are all that follows the numbers.
-fn ask_badge(rt: &HostRuntime, first: Asked, words: Words) -> Asked {
-    let mut asked = first;
-    if words.before < words.count {
-        let left = words.count - words.before;
-        if left == 2 {
-            asked.badge = words.before + 1;
-            asked.going = true;
-            return asked;
-        }
+fn ask_badge(rt: &HostRuntime, first: Asked, words: Words) -> Result<Asked, Stopped> {
+    if words.before < words.count && words.count - words.before == 2 {
+        return Ok(Asked {
+            badge: Some(words.before + 1),
+            ..first
+        });
     }
     say_usage(rt);
-    asked
+    Err(Stopped)
 }
 
 // One --also after another.
-fn ask_also(rt: &HostRuntime, first: Asked, words: Words) -> Asked {
+fn ask_also(rt: &HostRuntime, first: Asked, words: Words) -> Result<Asked, Stopped> {
     let mut asked = first;
-    let mut i = words.before;
-    let mut k = 1usize;
-    while i < words.count {
+    for i in (words.before..words.count).step_by(2) {
         let left = words.count - i;
+        let k = asked.count as usize;
         if GROUP_LIMIT <= k {
             say_too_many(rt, k + left / 2);
-            return asked;
+            return Err(Stopped);
         }
         if left == 1 {
             say_usage(rt);
-            return asked;
+            return Err(Stopped);
         }
-        let target = read_target(rt, i, i + 1);
-        if !target.right {
-            return asked;
-        }
-        asked.targets[k] = target;
-        k += 1;
-        asked.count = k as u32;
-        i += 2;
+        asked.targets[k] = read_target(rt, i, i + 1)?;
+        asked.count += 1;
     }
-    asked.going = true;
-    asked
+    Ok(asked)
 }
 
 // Those of all words; the main one has these sides.
-pub(crate) fn ask(rt: &HostRuntime, words: Words, sides: Dimensions) -> Asked {
-    let main = Target {
-        right: true,
-        sides,
-        word: 0,
-    };
+pub(crate) fn ask(rt: &HostRuntime, words: Words, sides: Dimensions) -> Result<Asked, Stopped> {
+    let main = Target { sides, word: None };
     let first = Asked {
-        going: false,
-        badge: 0,
+        badge: None,
         count: 1,
         targets: [main; GROUP_LIMIT],
     };
@@ -226,8 +173,10 @@ pub(crate) fn ask(rt: &HostRuntime, words: Words, sides: Dimensions) -> Asked {
 
 // What stands after the first = of a word.
 fn file_of(text: &[u8]) -> &[u8] {
-    let end = up_to(text, b'=');
-    tail_of(text, end)
+    match split_at_byte(text, b'=') {
+        Some((_, file)) => file,
+        None => text,
+    }
 }
 
 pub(crate) fn say_failed(rt: &HostRuntime, file: &[u8], error: &io::Error) {
@@ -247,140 +196,88 @@ fn create_file(rt: &HostRuntime, file: &[u8]) -> io::Result<File> {
     File::create(rt, path_of(file)?)
 }
 
-// Makes the file that argument `word` names, or empties it. Where that fails, which is said, there is none.
-fn make_file(rt: &HostRuntime, word: usize) -> Out {
+// Makes the file that argument `word` names, or empties it.
+fn make_file(rt: &HostRuntime, word: usize) -> Result<Named, Stopped> {
     let mut text = [0u8; TEXT];
     let n = argument_text(rt, word, &mut text);
-    let file = file_of(&text[..n]);
-    match create_file(rt, file) {
-        Ok(made) => Out {
-            word,
-            file: Some(made),
-        },
+    let name = file_of(&text[..n]);
+    match create_file(rt, name) {
+        Ok(file) => Ok(Named { word, file }),
         Err(error) => {
-            say_failed(rt, file, &error);
-            Out { word, file: None }
+            say_failed(rt, name, &error);
+            Err(Stopped)
         }
     }
 }
 
-// False where the file does not take all of it, which is said.
-pub(crate) fn write_file(rt: &HostRuntime, word: usize, file: &File, bytes: &[u8]) -> bool {
-    let mut to = file;
-    match to.write_all(bytes) {
-        Ok(()) => true,
+// Where the file does not take all of it, that is said.
+pub(crate) fn write_file(rt: &HostRuntime, to: &Named, bytes: &[u8]) -> Result<(), Stopped> {
+    let mut file = &to.file;
+    match file.write_all(bytes) {
+        Ok(()) => Ok(()),
         Err(error) => {
             let mut text = [0u8; TEXT];
-            let n = argument_text(rt, word, &mut text);
+            let n = argument_text(rt, to.word, &mut text);
             say_failed(rt, file_of(&text[..n]), &error);
-            false
+            Err(Stopped)
         }
     }
 }
 
-// Where the previews go; not going where something stopped it.
-#[derive(Drop)]
-struct Outs {
-    going: bool,
-    outs: [Out; GROUP_LIMIT],
+// Where the previews go, a file or standard output each.
+fn make_files(rt: &HostRuntime, asked: Asked) -> Result<[Option<Named>; GROUP_LIMIT], Stopped> {
+    let mut files = array::from_fn(|_| None);
+    for k in 0..GROUP_LIMIT.min(asked.count as usize) {
+        if let Some(word) = asked.targets[k].word {
+            files[k] = Some(make_file(rt, word)?);
+        }
+    }
+    Ok(files)
 }
 
-fn make_files(rt: &HostRuntime, asked: Asked) -> Outs {
-    let mut files = Outs {
-        going: false,
-        outs: array::from_fn(|_| standard_output()),
-    };
-    let mut k = 1usize;
-    while k < GROUP_LIMIT {
-        if k == asked.count as usize {
-            files.going = true;
-            return files;
-        }
-        let target = asked.targets[k];
-        let to = make_file(rt, target.word);
-        if to.file.is_none() {
-            return files;
-        }
-        files.outs[k] = to;
-        k += 1;
+// Writes the header of each preview, where the form has one.
+fn open_all(
+    rt: &HostRuntime,
+    form: Form,
+    group: Group,
+    files: &[Option<Named>; GROUP_LIMIT],
+) -> Result<(), Stopped> {
+    for k in 0..GROUP_LIMIT.min(group.count as usize) {
+        open_to(rt, form, &files[k], group.jobs[k].plan.target)?;
     }
-    files.going = true;
-    files
-}
-
-// Writes the header of each preview, where the form has one; false where something stopped it.
-fn open_all(rt: &HostRuntime, form: Form, group: Group, files: &Outs) -> bool {
-    let mut k = 0usize;
-    while k < GROUP_LIMIT {
-        if k == group.count as usize {
-            return true;
-        }
-        let to = &files.outs[k];
-        let job = group.jobs[k];
-        let target = job.plan.target;
-        if !open_to(rt, form, to, target) {
-            return false;
-        }
-        k += 1;
-    }
-    true
+    Ok(())
 }
 
 // ---- the rows
-
-// A group on its way, or stopped by what was said.
-#[derive(Clone, Copy)]
-struct GroupRun {
-    group: Group,
-    going: bool,
-}
 
 // Takes the next row of job k and writes it.
 fn take_one(
     rt: &HostRuntime,
     group: Group,
     k: u32,
-    to: &Out,
+    to: &Option<Named>,
     out: &mut [u8],
     work: &mut [u32],
-) -> GroupRun {
-    let taken = take_group(group, k, out, work);
-    let answer = taken.answer;
-    let next = taken.group;
-    match answer {
-        Checked::Refused(why) => {
-            say_refusal(rt, why);
-            GroupRun {
-                group: next,
-                going: false,
-            }
-        }
-        Checked::Fit => {
-            let going = write_to(rt, to, out);
-            GroupRun { group: next, going }
-        }
-    }
+) -> Result<Group, Stopped> {
+    let next = next_of(rt, take_group(group, k, out, work))?;
+    write_to(rt, to, out)?;
+    Ok(next)
 }
 
 // Takes and writes every row of job k that is ready.
 fn take_rows(
     rt: &HostRuntime,
-    first: GroupRun,
+    fed: Group,
     k: u32,
-    to: &Out,
+    to: &Option<Named>,
     out: &mut [u8],
     work: &mut [u32],
-) -> GroupRun {
-    let mut run = first;
-    let mut left = group_ready(run.group, k);
-    while left > 0 {
-        if !run.going {
-            return run;
-        }
-        run = take_one(rt, run.group, k, to, out, work);
-        left -= 1;
+) -> Result<Group, Stopped> {
+    let mut group = fed;
+    for _ in 0..group_ready(fed, k) {
+        group = take_one(rt, group, k, to, out, work)?;
     }
-    run
+    Ok(group)
 }
 
 // The n bytes of a row or of a picture, where the buffer has them; else none, which every call refuses.
@@ -396,118 +293,87 @@ pub(crate) fn part_of(n: usize, buffer: &[u8]) -> usize
 // The same, in the part of the buffer that a row of the job takes.
 fn take_job(
     rt: &HostRuntime,
-    run: GroupRun,
+    group: Group,
     k: u32,
     plan: Plan,
-    to: &Out,
+    to: &Option<Named>,
     out: &mut [u8],
     work: &mut [u32],
-) -> GroupRun {
+) -> Result<Group, Stopped> {
     let n = part_of(row_bytes(plan, plan.target.width), out);
-    take_rows(rt, run, k, to, &mut out[..n], work)
+    take_rows(rt, group, k, to, &mut out[..n], work)
 }
 
 // Every row that is ready, of one job after another.
 fn take_all(
     rt: &HostRuntime,
-    first: GroupRun,
-    files: &Outs,
+    fed: Group,
+    files: &[Option<Named>; GROUP_LIMIT],
     out: &mut [u8],
     work: &mut [u32],
-) -> GroupRun {
-    let mut run = first;
-    let mut k = 0usize;
-    while k < GROUP_LIMIT {
-        let group = run.group;
-        let place = k as u32;
-        if place == group.count {
-            return run;
-        }
-        let job = group.jobs[k];
-        let to = &files.outs[k];
-        run = take_job(rt, run, place, job.plan, to, out, work);
-        k += 1;
+) -> Result<Group, Stopped> {
+    let mut group = fed;
+    for k in 0..GROUP_LIMIT.min(fed.count as usize) {
+        let plan = group.jobs[k].plan;
+        group = take_job(rt, group, k as u32, plan, &files[k], out, work)?;
     }
-    run
+    Ok(group)
 }
 
 // Reads a row and offers it.
-fn feed(rt: &HostRuntime, group: Group, row: &mut [u8], work: &mut [u32]) -> GroupRun {
-    if !read_whole(&mut rt.stdin(), row) {
-        let first = group.jobs[0];
-        say_too_short(rt, first.accepted);
-        return GroupRun {
-            group,
-            going: false,
-        };
+fn feed(
+    rt: &HostRuntime,
+    group: Group,
+    row: &mut [u8],
+    work: &mut [u32],
+) -> Result<Group, Stopped> {
+    if rt.stdin().read_exact(row).is_err() {
+        say_too_short(rt, group.jobs[0].accepted);
+        return Err(Stopped);
     }
-    let offered = offer_group(group, row, work);
-    let answer = offered.answer;
-    let next = offered.group;
-    match answer {
-        Checked::Refused(why) => {
-            say_refusal(rt, why);
-            GroupRun {
-                group: next,
-                going: false,
-            }
-        }
-        Checked::Fit => GroupRun {
-            group: next,
-            going: true,
-        },
-    }
+    next_of(rt, offer_group(group, row, work))
 }
 
 // A row in, and the rows that it makes ready out.
 fn pass(
     rt: &HostRuntime,
     group: Group,
-    files: &Outs,
+    files: &[Option<Named>; GROUP_LIMIT],
     row: &mut [u8],
     out: &mut [u8],
     work: &mut [u32],
-) -> GroupRun {
-    let fed = feed(rt, group, row, work);
+) -> Result<Group, Stopped> {
+    let fed = feed(rt, group, row, work)?;
     take_all(rt, fed, files, out, work)
 }
 
-// All of the source's rows, one after another; false where something stopped them.
+// All of the source's rows, one after another.
 fn pass_all(
     rt: &HostRuntime,
     fresh: Group,
     height: u32,
-    files: &Outs,
+    files: &[Option<Named>; GROUP_LIMIT],
     row: &mut [u8],
     out: &mut [u8],
     work: &mut [u32],
-) -> bool {
-    let mut run = GroupRun {
-        group: fresh,
-        going: true,
-    };
-    let mut left = height;
-    while left > 0 {
-        if !run.going {
-            return false;
-        }
-        run = pass(rt, run.group, files, row, out, work);
-        left -= 1;
+) -> Result<(), Stopped> {
+    let mut group = fresh;
+    for _ in 0..height {
+        group = pass(rt, group, files, row, out, work)?;
     }
-    run.going
+    Ok(())
 }
 
-// Runs a fresh group on the rows of standard input; false where something stopped it.
+// Runs a fresh group on the rows of standard input.
 fn run_group(
     rt: &HostRuntime,
     group: Group,
-    files: &Outs,
+    files: &[Option<Named>; GROUP_LIMIT],
     row: &mut [u8],
     out: &mut [u8],
     work: &mut [u32],
-) -> bool {
-    let first = group.jobs[0];
-    let plan = first.plan;
+) -> Result<(), Stopped> {
+    let plan = group.jobs[0].plan;
     let n = part_of(row_bytes(plan, plan.source.width), row);
     pass_all(
         rt,
@@ -522,54 +388,35 @@ fn run_group(
 
 // ---- the pictures
 
-// A plan for each preview; not going where a size is refused, which was said.
-#[derive(Clone, Copy)]
-struct Plans {
-    going: bool,
-    plans: [Plan; GROUP_LIMIT],
-}
-
-fn plan_all(rt: &HostRuntime, source: Dimensions, crop: Rect, asked: Asked) -> Plans {
-    let none = picture(source, crop, source);
-    let mut all = Plans {
-        going: false,
-        plans: [none; GROUP_LIMIT],
-    };
-    let mut k = 0usize;
-    while k < GROUP_LIMIT {
-        if k == asked.count as usize {
-            all.going = true;
-            return all;
-        }
-        let target = asked.targets[k];
-        let sized = preview_size(source, crop, target.sides);
-        match sized {
-            Sized::Refused(why) => {
-                say_refusal(rt, why);
-                return all;
-            }
-            Sized::Size(size) => {
-                let plan = picture(source, crop, size);
-                all.plans[k] = plan;
-            }
-        }
-        k += 1;
+// A plan for each preview.
+fn plan_all(
+    rt: &HostRuntime,
+    source: Dimensions,
+    crop: Rect,
+    asked: Asked,
+) -> Result<[Plan; GROUP_LIMIT], Stopped> {
+    let mut plans = [picture(source, crop, source); GROUP_LIMIT];
+    for k in 0..GROUP_LIMIT.min(asked.count as usize) {
+        let sized = preview_size(source, crop, asked.targets[k].sides);
+        plans[k] = picture(source, crop, sized.map_err(|why| stop(rt, why))?);
     }
-    all.going = true;
-    all
+    Ok(plans)
 }
 
 // Makes the files, and writes to them and to standard output: one row of the widest picture in, one out.
-fn run_all(rt: &HostRuntime, form: Form, asked: Asked, group: Group, work: &mut [u32]) {
+fn run_all(
+    rt: &HostRuntime,
+    form: Form,
+    asked: Asked,
+    group: Group,
+    work: &mut [u32],
+) -> Result<(), Stopped> {
     let mut row = [0u8; 65536];
     let mut out = [0u8; 65536];
-    let files = make_files(rt, asked);
-    if !files.going {
-        return;
-    }
-    if open_all(rt, form, group, &files) {
-        close(rt, run_group(rt, group, &files, &mut row, &mut out, work));
-    }
+    let files = make_files(rt, asked)?;
+    open_all(rt, form, group, &files)?;
+    run_group(rt, group, &files, &mut row, &mut out, work)?;
+    close(rt)
 }
 
 // Starts the group. The files are made once all sizes have passed, so that a refused picture empties none.
@@ -580,22 +427,19 @@ fn start_all(
     crop: Rect,
     asked: Asked,
     work: &mut [u32],
-) {
-    let all = plan_all(rt, source, crop, asked);
-    if !all.going {
-        return;
-    }
-    let plans = all.plans;
-    let started = start_group(plans, asked.count, work);
-    let answer = started.answer;
-    let group = started.group;
-    match answer {
-        Checked::Refused(why) => say_refusal(rt, why),
-        Checked::Fit => run_all(rt, form, asked, group, work),
-    }
+) -> Result<(), Stopped> {
+    let plans = plan_all(rt, source, crop, asked)?;
+    let group = next_of(rt, start_group(plans, asked.count, work))?;
+    run_all(rt, form, asked, group, work)
 }
 
-pub(crate) fn also(rt: &HostRuntime, form: Form, source: Dimensions, crop: Rect, asked: Asked) {
+pub(crate) fn also(
+    rt: &HostRuntime,
+    form: Form,
+    source: Dimensions,
+    crop: Rect,
+    asked: Asked,
+) -> Result<(), Stopped> {
     let mut work = [0u32; WORK];
-    start_all(rt, form, source, crop, asked, &mut work);
+    start_all(rt, form, source, crop, asked, &mut work)
 }

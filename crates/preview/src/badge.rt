@@ -2,15 +2,15 @@
 ghost use Rattle.std.specs.Prelude.{◌≤◌};
 
 use crate::also::{part_of, path_of, say_failed};
-use crate::header::{Head, Source, read_header};
+use crate::header::{Source, read_header};
 use crate::{
-    Form, Run, TEXT, close, ended, open, picture, preview_size, read_whole, run_rows, say,
-    say_refusal, took, write_out,
+    Form, Stopped, TEXT, close, ended, next_of, open, picture, preview_size, run_rows, say,
+    say_refusal, stop, write_out,
 };
 use job::Job;
 use job_rules::{Plan, row_bytes};
-use job_start::{Started, start};
-use pixels::{Checked, Dimensions, PIXEL_LANES, Rect, Refusal, Sized};
+use job_start::start;
+use pixels::{Dimensions, PIXEL_LANES, Rect, Refusal};
 use pixels_badge::lay_badge;
 use pixels_layout::PixelLayout;
 use std::env::FillError;
@@ -42,24 +42,24 @@ fn say_no_name(rt: &HostRuntime, why: FillError) {
     }
 }
 
-// Opens the file that argument `word` names. Where that fails, which is said, there is none.
-fn open_badge(rt: &HostRuntime, word: usize) -> Option<File> {
+// Opens the file that argument `word` names.
+fn open_badge(rt: &HostRuntime, word: usize) -> Result<File, Stopped> {
     let mut text = [0u8; TEXT];
     match rt.arg(word, &mut text) {
         Err(why) => {
             say_no_name(rt, why);
-            None
+            Err(Stopped)
         }
         Ok(n) => open_named(rt, &text[..n]),
     }
 }
 
-fn open_named(rt: &HostRuntime, file: &[u8]) -> Option<File> {
+fn open_named(rt: &HostRuntime, file: &[u8]) -> Result<File, Stopped> {
     match open_file(rt, file) {
-        Ok(opened) => Some(opened),
+        Ok(opened) => Ok(opened),
         Err(error) => {
             say_failed(rt, file, &error);
-            None
+            Err(Stopped)
         }
     }
 }
@@ -78,46 +78,39 @@ fn say_unequal(rt: &HostRuntime, badge: Dimensions, preview: Dimensions) {
     say(rt, b": they have to be of one size\n");
 }
 
-// Whether both have one size; where not, that is said.
-fn fits(rt: &HostRuntime, badge: Dimensions, preview: Dimensions) -> bool {
-    if badge.width == preview.width && badge.height == preview.height {
-        return true;
-    }
-    say_unequal(rt, badge, preview);
-    false
-}
-
-// Reads the badge's pixels, with which its file ends; false where it does not, which is said.
-fn read_pixels(rt: &HostRuntime, file: &mut File, badge: &mut [u8]) -> bool {
-    if !read_whole(file, badge) {
+// Reads the badge's pixels, with which its file ends.
+fn read_pixels(rt: &HostRuntime, file: &mut File, badge: &mut [u8]) -> Result<(), Stopped> {
+    if file.read_exact(badge).is_err() {
         say(
             rt,
             b"preview: the badge is too short: pixel bytes are missing\n",
         );
-        return false;
+        return Err(Stopped);
     }
     if !ended(file) {
         say(
             rt,
             b"preview: the badge is too long: it goes on after its last pixel\n",
         );
-        return false;
+        return Err(Stopped);
     }
-    true
+    Ok(())
 }
 
-// Reads the badge, of the preview's size, from the file that argument `word` names; false where something stopped it.
-fn read_badge(rt: &HostRuntime, word: usize, preview: Dimensions, badge: &mut [u8]) -> bool {
-    let Some(mut file) = open_badge(rt, word) else {
-        return false;
-    };
-    let head = read_header(rt, Source::Badge, &mut file);
-    if let Head::Size(size) = head {
-        if fits(rt, size, preview) {
-            return read_pixels(rt, &mut file, badge);
-        }
+// Reads the badge, of the preview's size, from the file that argument `word` names.
+fn read_badge(
+    rt: &HostRuntime,
+    word: usize,
+    preview: Dimensions,
+    badge: &mut [u8],
+) -> Result<(), Stopped> {
+    let mut file = open_badge(rt, word)?;
+    let size = read_header(rt, Source::Badge, &mut file)?;
+    if size != preview {
+        say_unequal(rt, size, preview);
+        return Err(Stopped);
     }
-    false
+    read_pixels(rt, &mut file, badge)
 }
 
 // ---- the preview
@@ -144,28 +137,33 @@ fn place(row: usize, k: u32, n: usize) -> Bounds
 }
 
 // Takes the next row into its place.
-pub(crate) fn hold_row(rt: &HostRuntime, job: Job, pixels: &mut [u8], work: &mut [u32]) -> Run {
+pub(crate) fn hold_row(
+    rt: &HostRuntime,
+    job: Job,
+    pixels: &mut [u8],
+    work: &mut [u32],
+) -> Result<Job, Stopped> {
     let row = row_bytes(job.plan, job.plan.target.width);
     let bounds = place(row, job.taken, pixels.len());
     let at = bounds.at;
     let end = bounds.end;
-    took(rt, job.take(&mut pixels[at..end], work))
+    next_of(rt, job.take(&mut pixels[at..end], work))
 }
 
-// Runs a fresh job on the rows of standard input; false where something stopped it.
+// Runs a fresh job on the rows of standard input.
 fn hold_job(
     rt: &HostRuntime,
     job: Job,
     row: &mut [u8],
     pixels: &mut [u8],
     work: &mut [u32],
-) -> bool {
+) -> Result<(), Stopped> {
     let n = part_of(row_bytes(job.plan, job.plan.source.width), row);
     run_rows(rt, job, true, &mut row[..n], pixels, work)
 }
 
-// Makes the preview, with one row of the widest picture and the work values of the widest preview; false where something stopped it.
-fn make(rt: &HostRuntime, plan: Plan, pixels: &mut [u8]) -> bool {
+// Makes the preview, with one row of the widest picture and the work values of the widest preview.
+fn make(rt: &HostRuntime, plan: Plan, pixels: &mut [u8]) -> Result<(), Stopped> {
     let mut row = [0u8; 65536];
     let mut work = [0u32; 131072];
     let started = start(
@@ -175,13 +173,8 @@ fn make(rt: &HostRuntime, plan: Plan, pixels: &mut [u8]) -> bool {
         plan.target,
         &mut work,
     );
-    match started {
-        Started::Refused { why } => {
-            say_refusal(rt, why);
-            false
-        }
-        Started::Fresh { job } => hold_job(rt, job, &mut row, pixels, &mut work),
-    }
+    let job = started.map_err(|why| stop(rt, why))?;
+    hold_job(rt, job, &mut row, pixels, &mut work)
 }
 
 // ---- one over the other
@@ -197,8 +190,14 @@ fn say_not_laid(rt: &HostRuntime, why: Refusal) {
 }
 
 // Lays the badge, and writes what it is laid on.
-fn finish(rt: &HostRuntime, form: Form, size: Dimensions, pixels: &mut [u8], badge: &[u8]) {
-    let checked = lay_badge(
+fn finish(
+    rt: &HostRuntime,
+    form: Form,
+    size: Dimensions,
+    pixels: &mut [u8],
+    badge: &[u8],
+) -> Result<(), Stopped> {
+    let laid = lay_badge(
         size,
         PixelLayout::Rgba8,
         pixels,
@@ -206,53 +205,63 @@ fn finish(rt: &HostRuntime, form: Form, size: Dimensions, pixels: &mut [u8], bad
         PixelLayout::Rgba8,
         badge,
     );
-    match checked {
-        Checked::Refused(why) => say_not_laid(rt, why),
-        Checked::Fit => {
-            if open(rt, form, size) {
-                write_out(rt, pixels);
-            }
-        }
+    if let Err(why) = laid {
+        say_not_laid(rt, why);
+        return Err(Stopped);
     }
+    open(rt, form, size)?;
+    write_out(rt, pixels)
 }
 
-// The bytes of a picture that is held; 0 where it is too large.
-fn picture_bytes(size: Dimensions) -> usize {
+// The bytes of a picture that is held; none where it is too large.
+fn picture_bytes(size: Dimensions) -> Option<usize> {
     let count = size.pixel_count();
     if (MOST as u64) < count {
-        return 0;
+        return None;
     }
-    PIXEL_LANES * count as usize
+    Some(PIXEL_LANES * count as usize)
 }
 
 // Reads the badge, makes the preview, and goes on where the input has ended with it.
-fn lay(rt: &HostRuntime, form: Form, plan: Plan, word: usize, pixels: &mut [u8], badge: &mut [u8]) {
-    if !read_badge(rt, word, plan.target, badge) {
-        return;
-    }
-    if close(rt, make(rt, plan, pixels)) {
-        finish(rt, form, plan.target, pixels, badge);
-    }
-}
-
-// The same, in the parts of the buffers that the pictures take.
-fn lay_in(
+fn lay(
     rt: &HostRuntime,
     form: Form,
     plan: Plan,
     word: usize,
     pixels: &mut [u8],
     badge: &mut [u8],
-) {
-    let n = part_of(picture_bytes(plan.target), pixels);
-    let m = part_of(n, badge);
-    lay(rt, form, plan, word, &mut pixels[..n], &mut badge[..m]);
+) -> Result<(), Stopped> {
+    read_badge(rt, word, plan.target, badge)?;
+    make(rt, plan, pixels)?;
+    close(rt)?;
+    finish(rt, form, plan.target, pixels, badge)
 }
 
-fn hold(rt: &HostRuntime, form: Form, plan: Plan, word: usize) {
+// The same, in the `bytes` of the buffers that the pictures take.
+fn lay_in(
+    rt: &HostRuntime,
+    form: Form,
+    plan: Plan,
+    word: usize,
+    bytes: usize,
+    pixels: &mut [u8],
+    badge: &mut [u8],
+) -> Result<(), Stopped> {
+    let n = part_of(bytes, pixels);
+    let m = part_of(n, badge);
+    lay(rt, form, plan, word, &mut pixels[..n], &mut badge[..m])
+}
+
+fn hold(
+    rt: &HostRuntime,
+    form: Form,
+    plan: Plan,
+    word: usize,
+    bytes: usize,
+) -> Result<(), Stopped> {
     let mut pixels = [0u8; HELD];
     let mut badge = [0u8; HELD];
-    lay_in(rt, form, plan, word, &mut pixels, &mut badge);
+    lay_in(rt, form, plan, word, bytes, &mut pixels, &mut badge)
 }
 
 fn say_too_large(rt: &HostRuntime) {
@@ -267,16 +276,11 @@ pub(crate) fn badged(
     crop: Rect,
     sides: Dimensions,
     word: usize,
-) {
-    let sized = preview_size(source, crop, sides);
-    match sized {
-        Sized::Refused(why) => say_refusal(rt, why),
-        Sized::Size(target) => {
-            if picture_bytes(target) == 0 {
-                say_too_large(rt);
-                return;
-            }
-            hold(rt, form, picture(source, crop, target), word);
-        }
-    }
+) -> Result<(), Stopped> {
+    let target = preview_size(source, crop, sides).map_err(|why| stop(rt, why))?;
+    let Some(bytes) = picture_bytes(target) else {
+        say_too_large(rt);
+        return Err(Stopped);
+    };
+    hold(rt, form, picture(source, crop, target), word, bytes)
 }

@@ -1,21 +1,12 @@
 // The header of a PAM picture: read byte by byte, so that no byte of a pixel is read with it, and written to where a preview goes.
 ghost use Rattle.std.specs.Prelude.{◌<◌, length};
 
-use crate::{Out, read_whole, say, say_refusal, write_to};
-use pam_header::{PamHeader, pam_header};
-use pam_heading::{PamLength, pam_header_length, pam_write_header};
+use crate::{Named, Stopped, say, say_refusal, stop, write_to};
+use pam_header::pam_header;
+use pam_heading::{pam_header_length, pam_write_header};
 use pam_parts::head_of;
-use pam_text::same;
-use pixels::{Checked, Dimensions, Refusal};
+use pixels::{Dimensions, Refusal};
 use std::io::Read;
-
-// A beginning of a header; the size that a whole one says; or stopped by what was said.
-#[derive(Clone, Copy)]
-pub enum Head {
-    More,
-    Size(Dimensions),
-    Stopped,
-}
 
 // What a header is read from: standard input, or the badge's file.
 #[derive(Clone, Copy)]
@@ -28,7 +19,7 @@ pub enum Source {
 
 // Whether the first line is P7, or, cut off, a beginning of that.
 fn opens(text: &[u8]) -> bool {
-    same(head_of(text, 3), head_of(b"P7\n", text.len()))
+    b"P7\n".starts_with(head_of(text, 3))
 }
 
 // The line for what is read.
@@ -55,7 +46,7 @@ fn say_of_pam(rt: &HostRuntime, from: Source, text: &[u8], input: &[u8], badge: 
 
 // Where what is read ends.
 fn say_cut(rt: &HostRuntime, from: Source, text: &[u8]) {
-    if text.len() == 0 {
+    if text.is_empty() {
         say_of(
             rt,
             from,
@@ -110,16 +101,15 @@ fn say_refused(rt: &HostRuntime, from: Source, text: &[u8], why: Refusal) {
 
 // ---- reading
 
-// What the bytes so far say.
-fn judge(rt: &HostRuntime, from: Source, text: &[u8]) -> Head {
-    let said = pam_header(text);
-    match said {
-        PamHeader::Picture { size, start: _ } => Head::Size(size),
-        PamHeader::Refused(why) => {
+// What the bytes so far say: the size that a whole header says, none of a beginning.
+fn judge(rt: &HostRuntime, from: Source, text: &[u8]) -> Result<Option<Dimensions>, Stopped> {
+    match pam_header(text) {
+        Err(why) => {
             say_refused(rt, from, text, why);
-            Head::Stopped
+            Err(Stopped)
         }
-        PamHeader::Unfinished => Head::More,
+        Ok(None) => Ok(None),
+        Ok(Some(picture)) => Ok(Some(picture.size)),
     }
 }
 
@@ -130,38 +120,32 @@ fn read_byte(
     input: &mut impl Read,
     text: &mut [u8],
     n: usize,
-) -> Head
+) -> Result<Option<Dimensions>, Stopped>
     requires { n < length text.old }
 {
     let mut byte = [0u8; 1];
-    if !read_whole(input, &mut byte) {
+    if input.read_exact(&mut byte).is_err() {
         say_cut(rt, from, head_of(text, n));
-        return Head::Stopped;
+        return Err(Stopped);
     }
     text[n] = byte[0];
-    if byte[0] != 10 {
-        return Head::More;
+    if byte[0] != b'\n' {
+        return Ok(None);
     }
     judge(rt, from, head_of(text, n + 1))
 }
 
-fn is_more(head: Head) -> bool {
-    match head {
-        Head::More => true,
-        _ => false,
-    }
-}
-
 // Reads a header of at most 4,096 bytes.
-pub(crate) fn read_header(rt: &HostRuntime, from: Source, input: &mut impl Read) -> Head {
+pub(crate) fn read_header(
+    rt: &HostRuntime,
+    from: Source,
+    input: &mut impl Read,
+) -> Result<Dimensions, Stopped> {
     let mut text = [0u8; 4096];
-    let mut n = 0usize;
-    while n < 4096 {
-        let head = read_byte(rt, from, input, &mut text, n);
-        if !is_more(head) {
-            return head;
+    for n in 0..4096 {
+        if let Some(size) = read_byte(rt, from, input, &mut text, n)? {
+            return Ok(size);
         }
-        n += 1;
     }
     say_of_pam(
         rt,
@@ -170,32 +154,31 @@ pub(crate) fn read_header(rt: &HostRuntime, from: Source, input: &mut impl Read)
         b"preview: the PAM header is longer than the 4096 bytes that are read\n",
         b"preview: the PAM header of the badge is longer than the 4096 bytes that are read\n",
     );
-    Head::Stopped
+    Err(Stopped)
 }
 
 // ---- writing
 
 // Fills the buffer, which has the header's length, and writes it.
-fn put_header(rt: &HostRuntime, to: &Out, size: Dimensions, out: &mut [u8]) -> bool {
-    let checked = pam_write_header(size, out);
-    match checked {
-        Checked::Refused(why) => {
-            say_refusal(rt, why);
-            false
-        }
-        Checked::Fit => write_to(rt, to, out),
-    }
+fn put_header(
+    rt: &HostRuntime,
+    to: &Option<Named>,
+    size: Dimensions,
+    out: &mut [u8],
+) -> Result<(), Stopped> {
+    pam_write_header(size, out).map_err(|why| stop(rt, why))?;
+    write_to(rt, to, out)
 }
 
-// Writes the header of a picture of this size, at most 73 bytes; false where something stopped it.
-pub(crate) fn write_header(rt: &HostRuntime, to: &Out, size: Dimensions) -> bool {
+// Writes the header of a picture of this size, at most 73 bytes.
+pub(crate) fn write_header(
+    rt: &HostRuntime,
+    to: &Option<Named>,
+    size: Dimensions,
+) -> Result<(), Stopped> {
     let mut text = [0u8; 73];
-    let length = pam_header_length(size);
-    match length {
-        PamLength::Refused(why) => {
-            say_refusal(rt, why);
-            false
-        }
-        PamLength::Bytes(n) => put_header(rt, to, size, &mut text[..n]),
+    match pam_header_length(size) {
+        Err(why) => Err(stop(rt, why)),
+        Ok(n) => put_header(rt, to, size, &mut text[..n]),
     }
 }

@@ -12,17 +12,16 @@ ghost use Rattle.std.specs.Prelude.{◌≤◌, length};
 ghost use Rattle.pixels.specs.Sizes.{row_bytes};
 ghost use Rattle.job_rules.specs.Rules.{lanes_of};
 
-use also::{Words, also, ask, up_to, words_of, write_file};
+use also::{Words, also, ask, split_at_byte, words_of, write_file};
 use badge::{badged, hold_row};
-use header::{Head, Source, read_header, write_header};
-use job::{Job, Offered, Taken};
+use header::{Source, read_header, write_header};
+use job::{Answer, Job};
 use job_rules::{Kind, Plan, check_start, row_bytes};
-use job_start::{Started, start};
+use job_start::start;
 use pam_parts::head_of;
-use pam_text::same;
-use pixels::{Checked, Dimensions, PIXEL_LANES, Rect, Refusal, Sized};
+use pixels::{Dimensions, PIXEL_LANES, Rect, Refusal};
 use pixels_layout::PixelLayout;
-use preview_decimal::{NONE, number};
+use preview_decimal::number;
 use std::env::FillError;
 use std::fs::File;
 use std::io;
@@ -38,6 +37,10 @@ enum Form {
     Pam,
     Raw,
 }
+
+// Something stopped the program, which was said.
+#[derive(Clone, Copy)]
+struct Stopped;
 
 // On standard error. Where that takes nothing, there is nobody to tell.
 fn say(rt: &HostRuntime, line: &[u8]) {
@@ -56,11 +59,10 @@ fn say_error(rt: &HostRuntime, what: &[u8], error: &io::Error) {
 
 // What stands before the number that std puts behind the words of an error, or else before the zeros.
 fn words_of_error(text: &[u8]) -> &[u8] {
-    let number = up_to(text, b'(');
-    if number == 0 {
-        return head_of(text, up_to(text, 0).saturating_sub(1));
+    match split_at_byte(text, b'(') {
+        Some((words, _)) => head_of(words, words.len().saturating_sub(1)),
+        None => split_at_byte(text, 0).map_or(&[], |(words, _)| words),
     }
-    head_of(text, number.saturating_sub(2))
 }
 
 // ---- the arguments
@@ -83,13 +85,11 @@ fn argument_text(rt: &HostRuntime, i: usize, text: &mut [u8]) -> usize
     rt.arg(i, text).unwrap_or(0)
 }
 
-// Argument i as a number; NONE where it is none.
-fn argument(rt: &HostRuntime, i: usize) -> u64 {
+// Argument i as a number; none where it is none.
+fn argument(rt: &HostRuntime, i: usize) -> Option<u32> {
     let mut text = [0u8; TEXT];
-    match rt.arg(i, &mut text) {
-        Ok(n) => number(&text[..n]),
-        Err(_) => NONE,
-    }
+    let n = argument_text(rt, i, &mut text);
+    number(&text[..n])
 }
 
 fn say_no_number(rt: &HostRuntime, i: usize) {
@@ -100,36 +100,28 @@ fn say_no_number(rt: &HostRuntime, i: usize) {
 fn is_word(rt: &HostRuntime, i: usize, word: &[u8]) -> bool {
     let mut text = [0u8; TEXT];
     let n = argument_text(rt, i, &mut text);
-    same(&text[..n], word)
+    &text[..n] == word
 }
 
-// Puts the arguments from `first` on into `numbers`; at the first that is no number says so and answers false. `count` has all words in it, the program's
-// own name too.
-fn arguments(rt: &HostRuntime, numbers: &mut [u32; 8], first: usize, count: usize) -> bool
+// The arguments from `first` on; the first that is no number is said. `count` has all words in it, the program's own name too.
+fn arguments(rt: &HostRuntime, first: usize, count: usize) -> Result<[u32; 8], Stopped>
     requires { first ≤ 2 }
 {
-    let mut i = 0usize;
-    while i < 8 {
+    let mut numbers = [0u32; 8];
+    for i in 0..8 {
         if first + i == count {
-            return true;
+            break;
         }
-        let n = argument(rt, first + i);
-        if NONE <= n {
+        let Some(n) = argument(rt, first + i) else {
             say_no_number(rt, i + 1);
-            return false;
-        }
-        numbers[i] = n as u32;
-        i += 1;
+            return Err(Stopped);
+        };
+        numbers[i] = n;
     }
-    true
+    Ok(numbers)
 }
 
 // ---- the input: all that knows its form
-
-// Reads the bytes, the next row's or all of a badge; false where what is read does not have them whole.
-fn read_whole(input: &mut impl Read, bytes: &mut [u8]) -> bool {
-    input.read_exact(bytes).is_ok()
-}
 
 // Whether there is nothing more to read.
 fn ended(input: &mut impl Read) -> bool {
@@ -139,71 +131,58 @@ fn ended(input: &mut impl Read) -> bool {
 
 // ---- the output
 
-// False where standard output does not take all of it, which is said.
-fn write_out(rt: &HostRuntime, bytes: &[u8]) -> bool {
+// What standard output does not take is said.
+fn write_out(rt: &HostRuntime, bytes: &[u8]) -> Result<(), Stopped> {
     match rt.stdout().write_all(bytes) {
-        Ok(()) => true,
+        Ok(()) => Ok(()),
         Err(error) => {
             say_error(rt, b"preview: standard output", &error);
-            false
+            Err(Stopped)
         }
     }
 }
 
-// Where a preview goes: to the file that argument `word` names, or where there is none to standard output.
+// A file that a preview goes to, and the argument that names it.
 #[derive(Drop)]
-struct Out {
+struct Named {
     word: usize,
-    file: Option<File>,
+    file: File,
 }
 
-fn standard_output() -> Out {
-    Out {
-        word: 0,
-        file: None,
-    }
-}
-
-fn write_to(rt: &HostRuntime, to: &Out, bytes: &[u8]) -> bool {
-    match &to.file {
+// To a file, or where there is none to standard output.
+fn write_to(rt: &HostRuntime, to: &Option<Named>, bytes: &[u8]) -> Result<(), Stopped> {
+    match to {
         None => write_out(rt, bytes),
-        Some(file) => write_file(rt, to.word, file, bytes),
+        Some(named) => write_file(rt, named, bytes),
     }
 }
 
 // ---- the rows
 
-// A job on its way, or stopped by what was said.
-#[derive(Clone, Copy)]
-struct Run {
-    job: Job,
-    going: bool,
-}
-
-// What a take leaves; a refusal is said.
-fn took(rt: &HostRuntime, taken: Taken) -> Run {
-    match taken {
-        Taken::Refused { why, job } => {
-            say_refusal(rt, why);
-            Run { job, going: false }
-        }
-        Taken::Wrote { job } => Run { job, going: true },
+// The next record that a call hands back; a refusal is said.
+fn next_of<T: Copy, R: Copy>(rt: &HostRuntime, answer: Answer<T, R>) -> Result<R, Stopped> {
+    match answer.said {
+        Err(why) => Err(stop(rt, why)),
+        Ok(_) => Ok(answer.next),
     }
 }
 
 // Takes the next row and writes it.
-fn write_row(rt: &HostRuntime, job: Job, out: &mut [u8], work: &mut [u32]) -> Run {
-    let run = took(rt, job.take(out, work));
-    if !run.going {
-        return run;
-    }
-    let next = run.job;
-    let going = write_out(rt, out);
-    Run { job: next, going }
+fn write_row(rt: &HostRuntime, job: Job, out: &mut [u8], work: &mut [u32]) -> Result<Job, Stopped> {
+    let next = next_of(rt, job.take(out, work))?;
+    write_out(rt, out)?;
+    Ok(next)
 }
 
 // Takes the next row. Where the preview is held, `out` has room for all of it; else for the row, which is written.
-fn take_row(rt: &HostRuntime, job: Job, held: bool, out: &mut [u8], work: &mut [u32]) -> Run {
+// Kept: a flag; a closure would need a clause for its calls in each of the three functions that hand it down.
+fn take_row(
+    rt: &HostRuntime,
+    job: Job,
+    held: bool,
+    out: &mut [u8],
+    work: &mut [u32],
+) -> Result<Job, Stopped> {
     if held {
         return hold_row(rt, job, out, work);
     }
@@ -211,17 +190,18 @@ fn take_row(rt: &HostRuntime, job: Job, held: bool, out: &mut [u8], work: &mut [
 }
 
 // Takes every row that is ready.
-fn take_ready(rt: &HostRuntime, first: Run, held: bool, out: &mut [u8], work: &mut [u32]) -> Run {
-    let mut run = first;
-    let mut left = run.job.ready();
-    while left > 0 {
-        if !run.going {
-            return run;
-        }
-        run = take_row(rt, run.job, held, out, work);
-        left -= 1;
+fn take_ready(
+    rt: &HostRuntime,
+    fed: Job,
+    held: bool,
+    out: &mut [u8],
+    work: &mut [u32],
+) -> Result<Job, Stopped> {
+    let mut job = fed;
+    for _ in 0..fed.ready() {
+        job = take_row(rt, job, held, out, work)?;
     }
-    run
+    Ok(job)
 }
 
 fn say_too_short(rt: &HostRuntime, rows: u32) {
@@ -229,25 +209,12 @@ fn say_too_short(rt: &HostRuntime, rows: u32) {
 }
 
 // Reads a row and offers it.
-fn feed_row(rt: &HostRuntime, job: Job, row: &mut [u8], work: &mut [u32]) -> Run {
-    if !read_whole(&mut rt.stdin(), row) {
+fn feed_row(rt: &HostRuntime, job: Job, row: &mut [u8], work: &mut [u32]) -> Result<Job, Stopped> {
+    if rt.stdin().read_exact(row).is_err() {
         say_too_short(rt, job.accepted);
-        return Run { job, going: false };
+        return Err(Stopped);
     }
-    let offered = job.offer(row, work);
-    match offered {
-        Offered::Refused { why, job: same } => {
-            say_refusal(rt, why);
-            Run {
-                job: same,
-                going: false,
-            }
-        }
-        Offered::Accepted { rows: _, job: next } => Run {
-            job: next,
-            going: true,
-        },
-    }
+    next_of(rt, job.offer(row, work))
 }
 
 // A row in, and the rows that it makes ready out.
@@ -258,12 +225,12 @@ fn pass_row(
     row: &mut [u8],
     out: &mut [u8],
     work: &mut [u32],
-) -> Run {
-    let fed = feed_row(rt, job, row, work);
+) -> Result<Job, Stopped> {
+    let fed = feed_row(rt, job, row, work)?;
     take_ready(rt, fed, held, out, work)
 }
 
-// All of the source's rows, one after another; false where something stopped them.
+// All of the source's rows, one after another.
 fn run_rows(
     rt: &HostRuntime,
     fresh: Job,
@@ -271,20 +238,12 @@ fn run_rows(
     row: &mut [u8],
     out: &mut [u8],
     work: &mut [u32],
-) -> bool {
-    let mut run = Run {
-        job: fresh,
-        going: true,
-    };
-    let mut left = fresh.plan.source.height;
-    while left > 0 {
-        if !run.going {
-            return false;
-        }
-        run = pass_row(rt, run.job, held, row, out, work);
-        left -= 1;
+) -> Result<(), Stopped> {
+    let mut job = fresh;
+    for _ in 0..fresh.plan.source.height {
+        job = pass_row(rt, job, held, row, out, work)?;
     }
-    run.going
+    Ok(())
 }
 
 // ---- the picture
@@ -301,8 +260,20 @@ fn say_refusal(rt: &HostRuntime, why: Refusal) {
     }
 }
 
-// Runs a fresh job on the rows of standard input; false where something stopped it.
-fn run_job(rt: &HostRuntime, job: Job, row: &mut [u8], out: &mut [u8], work: &mut [u32]) -> bool
+// A refusal, which is said, stops the program.
+fn stop(rt: &HostRuntime, why: Refusal) -> Stopped {
+    say_refusal(rt, why);
+    Stopped
+}
+
+// Runs a fresh job on the rows of standard input.
+fn run_job(
+    rt: &HostRuntime,
+    job: Job,
+    row: &mut [u8],
+    out: &mut [u8],
+    work: &mut [u32],
+) -> Result<(), Stopped>
     requires { (row_bytes (lanes_of job.plan) job.plan.source.width ≤ length row.old) × (row_bytes (lanes_of job.plan) job.plan.target.width ≤ length out.old) }
 {
     let w = row_bytes(job.plan, job.plan.source.width);
@@ -310,45 +281,52 @@ fn run_job(rt: &HostRuntime, job: Job, row: &mut [u8], out: &mut [u8], work: &mu
     run_rows(rt, job, false, &mut row[..w], &mut out[..m], work)
 }
 
-// After the last row: the input must have ended; false where it goes on, which is said. What stopped the rows was said.
-fn close(rt: &HostRuntime, whole: bool) -> bool {
-    if !whole {
-        return false;
+// After the last row: the input must have ended; where it goes on, that is said.
+fn close(rt: &HostRuntime) -> Result<(), Stopped> {
+    if ended(&mut rt.stdin()) {
+        return Ok(());
     }
-    let over = ended(&mut rt.stdin());
-    if !over {
-        say(
-            rt,
-            b"preview: the input is too long: it goes on after the last row\n",
-        );
-    }
-    over
+    say(
+        rt,
+        b"preview: the input is too long: it goes on after the last row\n",
+    );
+    Err(Stopped)
 }
 
-// Writes the preview's header, where its form has one; false where something stopped it.
-fn open_to(rt: &HostRuntime, form: Form, to: &Out, target: Dimensions) -> bool {
+// Writes the preview's header, where its form has one.
+fn open_to(
+    rt: &HostRuntime,
+    form: Form,
+    to: &Option<Named>,
+    target: Dimensions,
+) -> Result<(), Stopped> {
     match form {
         Form::Pam => write_header(rt, to, target),
-        Form::Raw => true,
+        Form::Raw => Ok(()),
     }
 }
 
-fn open(rt: &HostRuntime, form: Form, target: Dimensions) -> bool {
-    open_to(rt, form, &standard_output(), target)
+fn open(rt: &HostRuntime, form: Form, target: Dimensions) -> Result<(), Stopped> {
+    open_to(rt, form, &None, target)
 }
 
 // One row of the widest picture in, one out, and the work values of the widest preview.
-fn scale(rt: &HostRuntime, form: Form, source: Dimensions, crop: Rect, target: Dimensions) {
+fn scale(
+    rt: &HostRuntime,
+    form: Form,
+    source: Dimensions,
+    crop: Rect,
+    target: Dimensions,
+) -> Result<(), Stopped> {
     let mut row = [0u8; 65536];
     let mut out = [0u8; 65536];
     let mut work = [0u32; 131072];
-    let started = start(source, PixelLayout::Rgba8, crop, target, &mut work);
-    match started {
-        Started::Refused { why } => say_refusal(rt, why),
-        Started::Fresh { job } => {
-            if open(rt, form, target) {
-                close(rt, run_job(rt, job, &mut row, &mut out, &mut work));
-            }
+    match start(source, PixelLayout::Rgba8, crop, target, &mut work) {
+        Err(why) => Err(stop(rt, why)),
+        Ok(job) => {
+            open(rt, form, target)?;
+            run_job(rt, job, &mut row, &mut out, &mut work)?;
+            close(rt)
         }
     }
 }
@@ -375,36 +353,33 @@ fn picture(source: Dimensions, crop: Rect, target: Dimensions) -> Plan {
 
 // The size of the preview whose sides the arguments ask for, tested before one that is 0 is derived: from a crop beyond the picture none is. A side that is
 // still to be derived passes as the other one does.
-fn preview_size(source: Dimensions, crop: Rect, sides: Dimensions) -> Sized {
+fn preview_size(source: Dimensions, crop: Rect, sides: Dimensions) -> Result<Dimensions, Refusal> {
     let either = Dimensions {
         width: either(sides.width, sides.height),
         height: either(sides.height, sides.width),
     };
-    let checked = check_start(picture(source, crop, either), 131072);
-    match checked {
-        Checked::Refused(why) => Sized::Refused(why),
-        Checked::Fit => Dimensions {
-            width: crop.width,
-            height: crop.height,
-        }
-        .scaled(sides.width, sides.height),
+    check_start(picture(source, crop, either), 131072)?;
+    Dimensions {
+        width: crop.width,
+        height: crop.height,
     }
+    .scaled(sides.width, sides.height)
 }
 
-fn preview(rt: &HostRuntime, form: Form, source: Dimensions, crop: Rect, sides: Dimensions) {
-    let sized = preview_size(source, crop, sides);
-    match sized {
-        Sized::Refused(why) => say_refusal(rt, why),
-        Sized::Size(target) => scale(rt, form, source, crop, target),
-    }
+fn preview(
+    rt: &HostRuntime,
+    form: Form,
+    source: Dimensions,
+    crop: Rect,
+    sides: Dimensions,
+) -> Result<(), Stopped> {
+    let target = preview_size(source, crop, sides).map_err(|why| stop(rt, why))?;
+    scale(rt, form, source, crop, target)
 }
 
-// The crop, or the whole picture where the arguments name none.
-fn crop_of(source: Dimensions, cropped: bool, crop: Rect) -> Rect {
-    if cropped {
-        return crop;
-    }
-    Rect::new(0, 0, source.width, source.height)
+// The crop that the arguments name, or else the whole picture.
+fn crop_of(source: Dimensions, crop: Option<Rect>) -> Rect {
+    crop.unwrap_or(Rect::new(0, 0, source.width, source.height))
 }
 
 // ---- the two forms. Each calls `preview`, `badged` or `also` itself: a function that did it for both would take the stack of all for each.
@@ -417,75 +392,64 @@ fn say_usage(rt: &HostRuntime) {
 }
 
 // The size stands in the arguments.
-fn preview_raw(rt: &HostRuntime, words: Words) {
+fn preview_raw(rt: &HostRuntime, words: Words) -> Result<(), Stopped> {
     let count = words.before;
     if count != 6 && count != 10 {
         say_usage(rt);
-        return;
+        return Err(Stopped);
     }
-    let mut n = [0u32; 8];
-    if arguments(rt, &mut n, 2, count) {
-        let source = Dimensions {
-            width: n[0],
-            height: n[1],
-        };
-        let crop = crop_of(source, count == 10, Rect::new(n[4], n[5], n[6], n[7]));
-        let sides = Dimensions {
-            width: n[2],
-            height: n[3],
-        };
-        let asked = ask(rt, words, sides);
-        if asked.going {
-            if asked.badge != 0 {
-                badged(rt, Form::Raw, source, crop, sides, asked.badge);
-                return;
-            }
-            if asked.count == 1 {
-                preview(rt, Form::Raw, source, crop, sides);
-                return;
-            }
-            also(rt, Form::Raw, source, crop, asked);
-        }
+    let n = arguments(rt, 2, count)?;
+    let source = Dimensions {
+        width: n[0],
+        height: n[1],
+    };
+    let named = Rect::new(n[4], n[5], n[6], n[7]);
+    let crop = crop_of(source, (count == 10).then_some(named));
+    let sides = Dimensions {
+        width: n[2],
+        height: n[3],
+    };
+    let asked = ask(rt, words, sides)?;
+    if let Some(word) = asked.badge {
+        return badged(rt, Form::Raw, source, crop, sides, word);
     }
+    if asked.count == 1 {
+        return preview(rt, Form::Raw, source, crop, sides);
+    }
+    also(rt, Form::Raw, source, crop, asked)
 }
 
 // The size stands in the header.
-fn preview_pam(rt: &HostRuntime, words: Words) {
+fn preview_pam(rt: &HostRuntime, words: Words) -> Result<(), Stopped> {
     let count = words.before;
     if count != 3 && count != 7 {
         say_usage(rt);
-        return;
+        return Err(Stopped);
     }
-    let mut n = [0u32; 8];
-    if arguments(rt, &mut n, 1, count) {
-        let sides = Dimensions {
-            width: n[0],
-            height: n[1],
-        };
-        let asked = ask(rt, words, sides);
-        if asked.going {
-            let head = read_header(rt, Source::Input, &mut rt.stdin());
-            if let Head::Size(source) = head {
-                let crop = crop_of(source, count == 7, Rect::new(n[2], n[3], n[4], n[5]));
-                if asked.badge != 0 {
-                    badged(rt, Form::Pam, source, crop, sides, asked.badge);
-                    return;
-                }
-                if asked.count == 1 {
-                    preview(rt, Form::Pam, source, crop, sides);
-                    return;
-                }
-                also(rt, Form::Pam, source, crop, asked);
-            }
-        }
+    let n = arguments(rt, 1, count)?;
+    let sides = Dimensions {
+        width: n[0],
+        height: n[1],
+    };
+    let asked = ask(rt, words, sides)?;
+    let source = read_header(rt, Source::Input, &mut rt.stdin())?;
+    let named = Rect::new(n[2], n[3], n[4], n[5]);
+    let crop = crop_of(source, (count == 7).then_some(named));
+    if let Some(word) = asked.badge {
+        return badged(rt, Form::Pam, source, crop, sides, word);
     }
+    if asked.count == 1 {
+        return preview(rt, Form::Pam, source, crop, sides);
+    }
+    also(rt, Form::Pam, source, crop, asked)
 }
 
+// What stopped it was said.
 fn main(rt: HostRuntime) {
     let words = words_of(&rt);
-    if is_word(&rt, 1, b"--raw") {
-        preview_raw(&rt, words);
-        return;
-    }
-    preview_pam(&rt, words);
+    let _ = if is_word(&rt, 1, b"--raw") {
+        preview_raw(&rt, words)
+    } else {
+        preview_pam(&rt, words)
+    };
 }

@@ -8,8 +8,9 @@ use native.Mathlib.Omega.{arith}
 use native.Mathlib.Nat.{add-suc, add-zero, le_dest}
 use native.Mathlib.Numerals.{add-one}
 use lib.ListN.{length, get_or}
-use borrow.Author.Tests.{eq-eqb, ne_eqb}
-use Rattle.preview_decimal.specs.Decimal.{is_digit, digit_of, digits, value, none, decimal}
+use borrow.Author.Tests.{ne_eqb, lt-ltb, le-ltb}
+use Rattle.std.proofs.Common.{Some, None}
+use Rattle.preview_decimal.specs.Decimal.{is_digit, digit_of, digits, value, none, decimal, decimal_value}
 
 digits_next : (text : List ℕ) (k : ℕ) (b : Bool) → digits text k ≡ true → is_digit (get_or text k 0) ≡ b → digits text (k + 1) ≡ b
 unfolding digits
@@ -40,8 +41,12 @@ pub read_first : (text : List ℕ) → Read text 0 0
 unfolding digits value
 read_first text = record { all = refl; so_far = refl; small = omega arith; within = omega arith }
 
-pub read_empty : (text : List ℕ) → length text ≡ 0 → none ≡ decimal text
-read_empty text e = simp (eq-eqb (length text) 0 e)
+-- the number as the program has it
+pub none_told : (text : List ℕ) → none ≡ decimal text → None ≡ decimal_value text
+none_told text e = simp (le-ltb (decimal text) none (omega (arith, e)))
+
+pub number_told : (text : List ℕ) (v : ℕ) → v < none → v ≡ decimal text → Some v ≡ decimal_value text
+number_told text v s e = simp (lt-ltb (decimal text) none (omega (arith, e, s))) (ap Some e)
 
 module _ {text : List ℕ} {v i : ℕ} (r : Read text v i) where
   pub read_turn : i < length text → is_digit (get_or text i 0) ≡ true → 10 * v + digit_of (get_or text i 0) < none → Read text (10 * v + digit_of (get_or text i 0)) (i + 1)
@@ -49,26 +54,26 @@ module _ {text : List ℕ} {v i : ℕ} (r : Read text v i) where
       record { all = digits_next text i true r.all d; so_far = omega (arith, r.so_far, value_next text i); small = s; within = omega arith }
 
   -- a byte that is no digit
-  pub read_bad : i < length text → is_digit (get_or text i 0) ≡ false → none ≡ decimal text
+  pub read_bad : i < length text → is_digit (get_or text i 0) ≡ false → None ≡ decimal_value text
   read_bad l d =
       let (x, e) = le_dest l in
       let lost : digits text (length text) ≡ false = ap (digits text) (omega arith) ∙ digits_lost text (i + 1) x (digits_next text i false r.all d) in
-      simp (ne_eqb (length text) 0 (λ z. omega arith), lost)
+      none_told text (simp (ne_eqb (length text) 0 (λ z. omega arith), lost))
 
   -- too large with the next digit
-  pub read_large : i < length text → none ≤ 10 * v + digit_of (get_or text i 0) → none ≡ decimal text
+  pub read_large : i < length text → none ≤ 10 * v + digit_of (get_or text i 0) → None ≡ decimal_value text
   read_large l big =
       let (x, e) = le_dest l in
       let grown : value text (i + 1) ≤ value text (length text) = omega (arith, value_grows text (i + 1) x, ap (value text) {x = i + 1 + x} {y = length text} (omega arith)) in
       let cut : min (value text (length text)) none ≡ none = omega (arith, grown, value_next text i, r.so_far) in
-      simp (ne_eqb (length text) 0 (λ z. omega arith), cut, same (digits text (length text)))
+      none_told text (simp (ne_eqb (length text) 0 (λ z. omega arith), cut, same (digits text (length text))))
     where
       same : (b : Bool) → cond b none none ≡ none
       same true = refl
       same false = refl
 
-  pub read_done : length text ≤ i → (length text ≡ 0 → ⊥) → v ≡ decimal text
+  pub read_done : length text ≤ i → (length text ≡ 0 → ⊥) → Some v ≡ decimal_value text
   read_done l full =
       let whole : length text ≡ i = omega (arith, r.within) in
       let fits : min (value text i) none ≡ v = omega (arith, r.so_far, r.small) in
-      simp (whole, ne_eqb i 0 (λ z. full (whole ∙ z)), r.all, fits)
+      number_told text v r.small (simp (whole, ne_eqb i 0 (λ z. full (whole ∙ z)), r.all, fits))

@@ -1,5 +1,5 @@
 -- The 32-bit number that a text of decimal digits stands for. Assumes nothing.
-use Rattle.std.specs.Prelude.{ℕ, zero, suc, ◌+◌, ◌*◌, ◌%◌, ◌^◌, min, Bool, true, cond, ◌&&◌, List, leb, eqb, length, get_or}
+use Rattle.std.specs.Prelude.{ℕ, zero, suc, ◌+◌, ◌*◌, ◌%◌, ◌^◌, min, Bool, true, cond, ◌&&◌, List, leb, ltb, eqb, length, get_or, Option, Some, None}
 
 -- the ASCII codes of the digits are 48 to 57
 abbrev pub is_digit : ℕ → Bool
@@ -26,3 +26,7 @@ none = 2 ^ 32
 -- the number; none where the text is empty, where a byte is no digit and where the number does not fit 32 bits
 abbrev pub decimal : List ℕ → ℕ
 decimal text = cond (eqb (length text) 0) none (cond (digits text (length text)) (min (value text (length text)) none) none)
+
+-- the number as the program has it
+abbrev pub decimal_value : List ℕ → Option ℕ
+decimal_value text = cond (ltb (decimal text) none) (Some (decimal text)) None

@@ -4,9 +4,9 @@
 
 ghost use Rattle.std.specs.Prelude.{◌≤◌, length, IfOk};
 
-use job::{Job, Offered, Taken};
-use job_start::{Started, start};
-use pixels::{Dimensions, Flagged, PIXEL_LANES, Rect, Refusal, Sized};
+use job::Job;
+use job_start::start;
+use pixels::{Dimensions, PIXEL_LANES, Rect, Refusal};
 use pixels_alpha::apply_alpha_plane;
 use pixels_crop::crop;
 use pixels_layout::PixelLayout;
@@ -20,7 +20,7 @@ use picture::{check, fill, fill_plane};
 use text::{entry, number};
 
 // An answer as an entry holds it.
-#[derive(Clone, Copy)]
+#[derive(Clone, Copy, PartialEq, Eq)]
 struct Answer {
     number: u32,
     flag: u32,
@@ -40,7 +40,7 @@ struct Entry {
     answer: Answer,
 }
 
-// What no entry holds.
+// What no entry of the list holds. Kept: an entry that says 100 is answered as it was.
 fn wrong() -> Answer {
     Answer {
         number: 100,
@@ -57,13 +57,6 @@ fn refused(why: Refusal) -> Answer {
     }
 }
 
-fn flag_word(flag: bool) -> u32 {
-    if flag {
-        return 1;
-    }
-    0
-}
-
 fn layout_of(word: u32) -> PixelLayout {
     match word {
         1 => PixelLayout::Argb8,
@@ -74,10 +67,9 @@ fn layout_of(word: u32) -> PixelLayout {
 
 // The entry that fifteen numbers are.
 fn entry_of(n: &[u32; 15]) -> Entry {
-    let layout = layout_of(n[1]);
     Entry {
         kind: n[0],
-        layout: layout,
+        layout: layout_of(n[1]),
         source: Dimensions {
             width: n[2],
             height: n[3],
@@ -104,109 +96,68 @@ fn entry_of(n: &[u32; 15]) -> Entry {
 
 // ---- kind 0: crop then resize, by rows
 
-// A job on its way: the checksum of the rows taken from it, the generator's state, and whether every row was accepted.
+// A job on its way: the checksum of the rows taken from it, and the generator's state.
 #[derive(Clone, Copy)]
 struct Run {
     job: Job,
     sum: u32,
     state: u32,
-    accepted: bool,
 }
 
 // Takes every row that is ready.
-fn take_ready(run: Run, out: &mut [u8], work: &mut [u32]) -> Run {
-    let mut job = run.job;
-    let mut sum = run.sum;
-    let mut left = pixels::MAX_DIMENSION;
-    while left > 0 {
-        let taken = job.take(out, work);
-        match taken {
-            Taken::Refused { why: _, job: same } => {
-                return Run {
-                    job: same,
-                    sum,
-                    state: run.state,
-                    accepted: run.accepted,
-                };
-            }
-            Taken::Wrote { job: next } => {
-                job = next;
-            }
+fn take_ready(mut run: Run, out: &mut [u8], work: &mut [u32]) -> Run {
+    for _ in 0..pixels::MAX_DIMENSION {
+        let taken = run.job.take(out, work);
+        run.job = taken.next;
+        if taken.said.is_err() {
+            break;
         }
-        sum = check(sum, out);
-        left -= 1;
+        run.sum = check(run.sum, out);
     }
-    Run {
-        job,
-        sum,
-        state: run.state,
-        accepted: run.accepted,
-    }
+    run
 }
 
-// Offers the row that starts with pixel `first`, and takes what is ready after it.
+// Offers the row that starts with pixel `first`, and takes what is ready after it; none where the row is refused.
 fn feed(
-    run: Run,
+    mut run: Run,
     place: usize,
     pattern: u32,
     first: u32,
     row: &mut [u8],
     out: &mut [u8],
     work: &mut [u32],
-) -> Run {
-    let state = fill(row, place, pattern, first, run.state);
-    let job = run.job;
-    let offered = job.offer(row, work);
-    match offered {
-        Offered::Refused { why: _, job: same } => Run {
-            job: same,
-            sum: run.sum,
-            state,
-            accepted: false,
-        },
-        Offered::Accepted { rows: _, job: next } => take_ready(
-            Run {
-                job: next,
-                sum: run.sum,
-                state,
-                accepted: run.accepted,
-            },
-            out,
-            work,
-        ),
+) -> Option<Run> {
+    run.state = fill(row, place, pattern, first, run.state);
+    let offered = run.job.offer(row, work);
+    run.job = offered.next;
+    if offered.said.is_err() {
+        return None;
     }
+    Some(take_ready(run, out, work))
 }
 
-// Feeds the source's rows one by one, made of the entry's pattern.
-fn run_rows(e: Entry, fresh: Job, row: &mut [u8], out: &mut [u8], work: &mut [u32]) -> Run {
-    let layout = e.layout;
-    let place = layout.alpha_byte_offset();
+// Feeds the source's rows one by one, made of the entry's pattern; none where one is refused.
+fn run_rows(e: Entry, fresh: Job, row: &mut [u8], out: &mut [u8], work: &mut [u32]) -> Option<Run> {
     let mut run = Run {
         job: fresh,
         sum: picture::EMPTY,
         state: e.seed,
-        accepted: true,
     };
-    let mut k = 0u32;
-    while k < e.source.height {
+    let place = e.layout.alpha_byte_offset();
+    for k in 0..e.source.height {
         let first = arithmetic::wrapping_mul(k, e.source.width);
-        run = feed(run, place, e.pattern, first, row, out, work);
-        k += 1;
+        run = feed(run, place, e.pattern, first, row, out, work)?;
     }
-    run
+    Some(run)
 }
 
 fn ended(run: Run, height: u32) -> Answer {
-    let job = run.job;
-    if !run.accepted {
-        return wrong();
-    }
-    if job.taken != height {
+    if run.job.taken != height {
         return wrong();
     }
     Answer {
         number: 0,
-        flag: flag_word(job.flag),
+        flag: u32::from(run.job.flag),
         check: run.sum,
     }
 }
@@ -221,26 +172,25 @@ fn run_job(e: Entry, fresh: Job, row: &mut [u8], out: &mut [u8], work: &mut [u32
     if out.len() < m {
         return wrong();
     }
-    let run = run_rows(e, fresh, &mut row[..w], &mut out[..m], work);
-    ended(run, e.target.height)
+    match run_rows(e, fresh, &mut row[..w], &mut out[..m], work) {
+        Some(run) => ended(run, e.target.height),
+        None => wrong(),
+    }
 }
 
 fn by_rows(e: Entry, row: &mut [u8], out: &mut [u8], work: &mut [u32]) -> Answer {
-    let layout = e.layout;
-    let started = start(e.source, layout, e.crop, e.target, work);
-    match started {
-        Started::Refused { why } => refused(why),
-        Started::Fresh { job } => run_job(e, job, row, out, work),
+    match start(e.source, e.layout, e.crop, e.target, work) {
+        Err(why) => refused(why),
+        Ok(job) => run_job(e, job, row, out, work),
     }
 }
 
 // ---- kind 1: scaled
 
 fn by_size(e: Entry) -> Answer {
-    let sized = e.source.scaled(e.target.width, e.target.height);
-    match sized {
-        Sized::Refused(why) => refused(why),
-        Sized::Size(d) => Answer {
+    match e.source.scaled(e.target.width, e.target.height) {
+        Err(why) => refused(why),
+        Ok(d) => Answer {
             number: 0,
             flag: d.width,
             check: d.height,
@@ -259,12 +209,12 @@ fn bytes_of(size: Dimensions) -> usize {
     PIXEL_LANES * n as usize
 }
 
-fn flagged(answer: Flagged, bytes: &[u8]) -> Answer {
+fn flagged(answer: Result<bool, Refusal>, bytes: &[u8]) -> Answer {
     match answer {
-        Flagged::Refused(why) => refused(why),
-        Flagged::Flag(flag) => Answer {
+        Err(why) => refused(why),
+        Ok(flag) => Answer {
             number: 0,
-            flag: flag_word(flag),
+            flag: u32::from(flag),
             check: check(picture::EMPTY, bytes),
         },
     }
@@ -272,9 +222,8 @@ fn flagged(answer: Flagged, bytes: &[u8]) -> Answer {
 
 // Both buffers have the lengths that the entry's sizes say.
 fn crop_of(e: Entry, source: &mut [u8], out: &mut [u8]) -> Answer {
-    let layout = e.layout;
-    fill(source, layout.alpha_byte_offset(), e.pattern, 0, e.seed);
-    let answer = crop(e.source, layout, source, e.crop, out);
+    fill(source, e.layout.alpha_byte_offset(), e.pattern, 0, e.seed);
+    let answer = crop(e.source, e.layout, source, e.crop, out);
     flagged(answer, out)
 }
 
@@ -294,10 +243,9 @@ fn by_crop(e: Entry, source: &mut [u8], out: &mut [u8]) -> Answer {
 }
 
 fn plane_of(e: Entry, source: &mut [u8], plane: &mut [u8]) -> Answer {
-    let layout = e.layout;
-    fill(source, layout.alpha_byte_offset(), e.pattern, 0, e.seed);
+    fill(source, e.layout.alpha_byte_offset(), e.pattern, 0, e.seed);
     fill_plane(plane, e.pattern, e.seed);
-    let answer = apply_alpha_plane(e.source, layout, source, plane);
+    let answer = apply_alpha_plane(e.source, e.layout, source, plane);
     flagged(answer, source)
 }
 
@@ -316,32 +264,12 @@ fn by_plane(e: Entry, source: &mut [u8], plane: &mut [u8]) -> Answer {
 // ---- the list
 
 fn answer_of(e: Entry, source: &mut [u8], out: &mut [u8], work: &mut [u32]) -> Answer {
-    let kind = e.kind;
-    match kind {
+    match e.kind {
         0 => by_rows(e, source, out, work),
         1 => by_size(e),
         2 => by_crop(e, source, out),
         _ => by_plane(e, source, out),
     }
-}
-
-fn differs(a: Answer, b: Answer) -> bool {
-    if a.number != b.number {
-        return true;
-    }
-    if a.flag != b.flag {
-        return true;
-    }
-    a.check != b.check
-}
-
-// 1 where the port's answer differs, 0 where not.
-fn difference(e: Entry, source: &mut [u8], out: &mut [u8], work: &mut [u32]) -> u32 {
-    let ours = answer_of(e, source, out, work);
-    if differs(ours, e.answer) {
-        return 1;
-    }
-    0
 }
 
 // How many entries the list says it has, and how many of them differ.
@@ -358,13 +286,13 @@ fn replay(list: &[u8]) -> Count {
     let mut n = [0u32; 15];
     let first = number(list, 0);
     let mut at = first.next;
-    let mut left = first.value;
     let mut differ = 0u32;
-    while left > 0 {
+    for _ in 0..first.value {
         at = entry(list, at, &mut n);
-        let more = difference(entry_of(&n), &mut source, &mut out, &mut work);
-        differ = std::num::wrapping_add_u32(differ, more);
-        left -= 1;
+        let e = entry_of(&n);
+        if answer_of(e, &mut source, &mut out, &mut work) != e.answer {
+            differ = differ.wrapping_add(1);
+        }
     }
     Count {
         entries: first.value,
@@ -394,7 +322,5 @@ fn main(rt: HostRuntime) -> io::Result<()> {
     let mut list = [0u8; 65536];
     let n = read_full(&mut rt.stdin(), &mut list)?;
     let count = replay(&list[..n]);
-    let entries = count.entries;
-    let differ = count.differ;
-    println!(rt; "{entries} entries, {differ} differ")
+    println!(rt; "{} entries, {} differ", count.entries, count.differ)
 }

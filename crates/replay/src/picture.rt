@@ -4,7 +4,7 @@
 pub(crate) const EMPTY: u32 = 2166136261;
 
 fn step(s: u32) -> u32 {
-    std::num::wrapping_add_u32(arithmetic::wrapping_mul(s, 1664525), 1013904223)
+    s.wrapping_mul(1664525).wrapping_add(1013904223)
 }
 
 fn low(x: u32) -> u8 {
@@ -12,10 +12,7 @@ fn low(x: u32) -> u8 {
 }
 
 fn black_white(b: u32) -> u8 {
-    if b < 128 {
-        return 0;
-    }
-    255
+    if b < 128 { 0 } else { 255 }
 }
 
 fn few(k: u32) -> u8 {
@@ -52,7 +49,7 @@ fn colour(pattern: u32, i: u32, b: u32) -> u8 {
 
 // The byte at place j of a row that starts with pixel `first`, from the state s.
 fn value(pattern: u32, place: usize, first: u32, j: usize, s: u32) -> u8 {
-    let i = std::num::wrapping_add_u32(first, (j / pixels::PIXEL_LANES % 4294967296) as u32);
+    let i = first.wrapping_add((j / pixels::PIXEL_LANES % 4294967296) as u32);
     if j % pixels::PIXEL_LANES == place {
         return alpha(pattern, i, s / 16777216);
     }
@@ -62,37 +59,31 @@ fn value(pattern: u32, place: usize, first: u32, j: usize, s: u32) -> u8 {
 // Fills a row that starts with pixel `first`; returns the generator's state after it.
 pub(crate) fn fill(row: &mut [u8], place: usize, pattern: u32, first: u32, seed: u32) -> u32 {
     let mut s = seed;
-    let mut j = 0;
-    while j < row.len() {
+    for (j, byte) in row.iter_mut().enumerate() {
         s = step(s);
-        row[j] = value(pattern, place, first, j, s);
-        j += 1;
+        *byte = value(pattern, place, first, j, s);
     }
     s
 }
 
 // Fills an alpha plane.
 pub(crate) fn fill_plane(plane: &mut [u8], pattern: u32, seed: u32) {
-    let mut s = std::num::wrapping_add_u32(seed, 1);
-    let mut i = 0;
-    while i < plane.len() {
+    let mut s = seed.wrapping_add(1);
+    for (i, byte) in plane.iter_mut().enumerate() {
         s = step(s);
-        plane[i] = alpha(pattern, (i % 4294967296) as u32, s / 16777216);
-        i += 1;
+        *byte = alpha(pattern, (i % 4294967296) as u32, s / 16777216);
     }
 }
 
 fn mixed(h: u32, b: u8) -> u32 {
-    arithmetic::wrapping_mul(h ^ (b as u32), 16777619)
+    (h ^ u32::from(b)).wrapping_mul(16777619)
 }
 
 // The checksum of bytes after those that made h.
 pub(crate) fn check(h: u32, bytes: &[u8]) -> u32 {
     let mut sum = h;
-    let mut i = 0;
-    while i < bytes.len() {
-        sum = mixed(sum, bytes[i]);
-        i += 1;
+    for &b in bytes {
+        sum = mixed(sum, b);
     }
     sum
 }

@@ -1,12 +1,12 @@
 -- One lane of a column, from what a loop knows where the column starts and ends: with bytes for pixels its value and its carry are those of the definitions.
 -- And where the next column stands. Assumes nothing.
-use Rattle.std.proofs.Common.{◌≡◌, ℕ, suc, ◌+◌, ◌-◌, ◌*◌, ◌<◌, ◌≤◌, sym, ap, ◌∙◌, mul-le-mul_right, lt_of_mul-lt-mul_right, mul-le-mul_left, arith}
+use Rattle.std.proofs.Common.{◌≡◌, ℕ, suc, ◌+◌, ◌-◌, ◌*◌, ◌%◌, ◌^◌, ◌<◌, ◌≤◌, sym, ap, ◌∙◌, mul-le-mul_right, lt_of_mul-lt-mul_right, mul-le-mul_left, arith}
 use Rattle.arithmetic.specs.Word.{wrap_add}
 use Rattle.arithmetic.specs.FixedPoint.{mult, frac}
 use Rattle.arithmetic.specs.Sum.{sum}
 use Rattle.rows.specs.Column as column
 use Rattle.rows.specs.Column.{Finished, value}
-use Rattle.rows.specs.Inner.NextColumn.{NextAsks, NextIs}
+use Rattle.rows.specs.Inner.NextColumn.{NextAsks, StandsIn, NextIs}
 use Rattle.rows.proofs.Columns.{value_shrink, value_of, carry_of, carry_byte, lane_column}
 
 -- what a column's end leads to
@@ -44,6 +44,30 @@ module _ {n m each rest to over : ℕ} (a : NextAsks n m each rest to over) wher
     where
       some : 0 < each
       some = lt_of_mul-lt-mul_right m (let below : 0 * m < each * m = omega (arith, a.parts, a.rest_small, a.shrinks) in below)
+
+-- the same in words of 64 bits, where nothing wraps
+module _ (n m each rest to over : ℕ) (parts : each * m + rest ≡ n) (small : 0 < m → rest < m) (s : StandsIn n m to over) where
+  shared_asks : NextAsks n m each rest to over
+  shared_asks = record {
+    parts = parts;
+    rest_small = small (omega (arith, s.over_small));
+    over_small = s.over_small;
+    shrinks = s.shrinks;
+    n_small = s.n_small;
+    to_small = s.to_small;
+  }
+
+  word_to : (to + each) % 2 ^ 64 ≡ to + each
+  word_to = omega (arith, each_small shared_asks, s.to_small, s.n_small)
+
+  pub shared_longer : over < rest → NextIs n m to over to (((to + each) % 2 ^ 64 + 1) % 2 ^ 64) (((over + m) % 2 ^ 64 + (2 ^ 64 - rest)) % 2 ^ 64)
+  shared_longer l =
+      let past : ((to + each) % 2 ^ 64 + 1) % 2 ^ 64 ≡ to + each + 1 = omega (arith, word_to, each_small shared_asks, s.to_small, s.n_small) in
+      let left : ((over + m) % 2 ^ 64 + (2 ^ 64 - rest)) % 2 ^ 64 ≡ over + m - rest = omega (arith, s.over_small, s.shrinks, s.n_small, shared_asks.rest_small) in
+      rw (past, left) (next_longer shared_asks l)
+
+  pub shared_even : rest ≤ over → NextIs n m to over to ((to + each) % 2 ^ 64) (over - rest)
+  shared_even l = rw word_to (next_even shared_asks l)
 
 -- no column of m reaches past the row
 pub column_inside : (n m j next over : ℕ) → j < m → over < m → next * m ≡ suc j * n + over → next ≤ n

@@ -1,5 +1,5 @@
 -- A byte as it is summed is the matted colour, or the alpha itself: so the bytes of a pixel at a layout's places are its lanes. Assumes nothing.
-use Rattle.std.proofs.Common.{◌≡◌, ℕ, zero, suc, ◌+◌, ◌*◌, ◌/◌, ◌%◌, ◌^◌, ◌<◌, ◌≤◌, List, [], ◌∷◌, get_or, sym, refl, ap, ◌∙◌, arith, eq-eqb, ne_eqb}
+use Rattle.std.proofs.Common.{◌≡◌, ℕ, zero, suc, ◌+◌, ◌*◌, ◌/◌, ◌%◌, ◌^◌, ◌<◌, ◌≤◌, List, [], ◌∷◌, get_or, refl, ap, ◌∙◌, arith, eq-eqb, ne_eqb}
 use lib.Bits.{bit_or, bit_and, or_zero_r, or_add_and, or_lt, and_mask, and_comm}
 use Rattle.arithmetic.specs.Matte.{scale_colour, matte_factor}
 use Rattle.arithmetic.proofs.Mattes.{matte_halves}
@@ -37,6 +37,11 @@ orred_opaque o = whole (bit_or 255 (o % 256)) (bit_and 255 (o % 256)) (or_add_an
   where
     whole : (x y : ℕ) → x + y ≡ 255 + o % 256 → y ≡ o % 256 % 2 ^ 8 → x ≡ 255
     whole x y p q = omega arith
+
+-- low bits are their own low bits
+pub toned_low : (c a o : ℕ) {b : ℕ} → b ≡ o % 256 → toned c a b ≡ toned c a o
+unfolding toned orred
+toned_low c a o {b} e = ap (λ (x : ℕ). scale_colour c (matte_factor (bit_or a x))) (let low : b % 256 ≡ o % 256 = omega arith in low)
 
 -- ---- the matte: t×257 / 65536 for (t + t / 256) / 256
 pub matte_257 : (c f : ℕ) → c ≤ 255 → f ≤ 255 → scale_colour c (matte_factor f) ≡ (c * f + 128) * 257 / 65536

@@ -1,41 +1,47 @@
 // A crop row put into the work rows, whole: its values, and the sum where the height does not grow.
 ghost use Rattle.std.specs.Prelude.{◌≡◌, length};
-ghost use Rattle.pixels.specs.Refusals.{checked_number};
+ghost use Rattle.pixels.specs.Refusals.{answer_number};
 ghost use Rattle.rows.specs.WorkRows.{scale_of, row_in};
 ghost use Rattle.rows_adding.specs.Put.{put_number, put_value, put_work};
 ghost use Rattle.rows_form.specs.Form.{lanes_in};
 ghost use Rattle.rows_adding.specs.Inner.{half_for, form_half};
 
 use crate::add_halves;
-use pixels::{Checked, Dimensions, Refusal, bad_size};
+use pixels::{Dimensions, Refusal, bad_size};
 use pixels_sizes::bad_lanes;
 use rows_form::RowForm;
 use rows_pixels::import_row;
 use rows_planes::import_plane_row;
 
 // The tests, in their order, of a row of so many lanes, `bytes` bytes and `room` work values.
-fn check_put(lanes: u32, crop: Dimensions, target: Dimensions, bytes: usize, room: usize) -> Checked
-    ensures { checked_number result ≡ put_number lanes crop target bytes room }
+fn check_put(
+    lanes: u32,
+    crop: Dimensions,
+    target: Dimensions,
+    bytes: usize,
+    room: usize,
+) -> Result<(), Refusal>
+    ensures { answer_number result ≡ put_number lanes crop target bytes room }
 {
     if bad_size(crop) {
-        return Checked::Refused(Refusal::InvalidDimensions);
+        return Err(Refusal::InvalidDimensions);
     }
     if bad_size(target) {
-        return Checked::Refused(Refusal::InvalidDimensions);
+        return Err(Refusal::InvalidDimensions);
     }
     if bad_lanes(lanes) {
-        return Checked::Refused(Refusal::InvalidLanes);
+        return Err(Refusal::InvalidLanes);
     }
     if bytes != lanes as usize * crop.width as usize {
-        return Checked::Refused(Refusal::PixelBufferMismatch);
+        return Err(Refusal::PixelBufferMismatch);
     }
     if room < 2 * (lanes as usize * target.width as usize) {
-        return Checked::Refused(Refusal::WorkLength);
+        return Err(Refusal::WorkLength);
     }
-    Checked::Fit
+    Ok(())
 }
 
-// Heights h to g, w values a half: where the values of crop row c go.
+// Heights h to g, w values a half: where the values of crop row c go. Kept beside half_of of rows_scaling, which knows that the height grows.
 fn half_for(h: u32, g: u32, w: usize, c: u32) -> usize
     ensures { result ≡ half_for h g w c }
 {
@@ -54,10 +60,10 @@ fn import_in(form: RowForm, crop_width: u32, target_width: u32, row: &[u8], half
 {
     match form {
         RowForm::Pixels(layout) => {
-            import_row(layout, crop_width, target_width, row, half);
+            let _ = import_row(layout, crop_width, target_width, row, half);
         }
         RowForm::Plain(lanes) => {
-            import_plane_row(lanes, crop_width, target_width, row, half);
+            let _ = import_plane_row(lanes, crop_width, target_width, row, half);
         }
     }
 }
@@ -73,7 +79,7 @@ fn row_in(form: RowForm, crop: Dimensions, target: Dimensions, c: u32, row: &[u8
     if crop.height < target.height {
         return;
     }
-    add_halves(w, work);
+    let _ = add_halves(w, work);
 }
 
 // Crop row c comes into the work rows: its values into its half, then, where the height does not grow, added to the first. The Rust: a turn of Rescaler::import.
@@ -85,16 +91,11 @@ pub fn put_row(
     c: u32,
     row: &[u8],
     work: &mut [u32],
-) -> Checked
-    ensures number { checked_number result ≡ put_number (lanes_in form) crop target (length row.now) (length work.old) }
+) -> Result<(), Refusal>
+    ensures number { answer_number result ≡ put_number (lanes_in form) crop target (length row.now) (length work.old) }
     ensures work { work.new ≡ put_work form crop target c row.now work.old }
 {
-    let checked = check_put(form.lanes(), crop, target, row.len(), work.len());
-    match checked {
-        Checked::Refused(why) => Checked::Refused(why),
-        Checked::Fit => {
-            row_in(form, crop, target, c, row, work);
-            Checked::Fit
-        }
-    }
+    check_put(form.lanes(), crop, target, row.len(), work.len())?;
+    row_in(form, crop, target, c, row, work);
+    Ok(())
 }

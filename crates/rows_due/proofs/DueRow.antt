@@ -22,17 +22,6 @@ range_low x from room e = leb-true from x (both_true (leb from x) (ltb x (from +
 pub range_high : (x from room : ℕ) → within x from room ≡ true → x < from + room
 range_high x from room e = ltb-true x (from + room) (both_true (leb from x) (ltb x (from + room)) e).1
 
-pub range_before : (x from room : ℕ) → x < from → within x from room ≡ false
-range_before x from room h = simp (lt-leb from x h)
-
--- by the difference, which fits wherever the numbers do
-pub range_test : (x from room : ℕ) → from ≤ x → ltb (x - from) room ≡ within x from room
-range_test x from room l =
-    ⊎_elim
-    (λ h. le-ltb (x - from) room h ∙ sym (simp (le-leb from x l, le-ltb x (from + room) (omega arith))))
-    (λ h. lt-ltb (x - from) room h ∙ sym (simp (le-leb from x l, lt-ltb x (from + room) (omega arith))))
-    (le_or_lt room (x - from))
-
 -- ---- which of the two heights is meant
 pub due_down : (h g u y : ℕ) → g ≤ h → due h g u y ≡ within (u * g) (suc y * h) g
 unfolding due

@@ -6,24 +6,11 @@ ghost use Rattle.std.specs.Prelude.{◌≡◌, ◌-◌};
 ghost use Rattle.rows_due.specs.Due as spec;
 ghost use Rattle.rows_due.specs.Due.{within};
 
-// n - 1, and 0 of 0.
-fn less_one(n: u32) -> u32
-    ensures { result ≡ n - 1 }
-{
-    if n == 0 {
-        return 0;
-    }
-    n - 1
-}
-
 // from ≤ x < from + room
 fn in_range(x: u64, from: u64, room: u64) -> bool
     ensures { result ≡ within x from room }
 {
-    if x < from {
-        return false;
-    }
-    x - from < room
+    from <= x && x - from < room
 }
 
 // Whether `used` crop rows are those of output row `row`, for a crop h and a target g high.
@@ -41,8 +28,8 @@ pub fn due(h: u32, g: u32, used: u32, row: u32) -> bool
     if used == 0 {
         return false;
     }
-    let a = less_one(used);
-    let b = less_one(g);
-    let c = less_one(h);
+    let a = used.saturating_sub(1);
+    let b = g.saturating_sub(1);
+    let c = h.saturating_sub(1);
     in_range(a as u64 * b as u64, row as u64 * c as u64, b as u64)
 }

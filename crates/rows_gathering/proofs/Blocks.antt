@@ -1,6 +1,6 @@
 -- Every second pixel of a column, and the entries of a block's sums; what makes a block. Assumes nothing.
 use Prim.Native.Nat.{ℕ, zero, suc, ◌+◌, ◌-◌, ◌*◌, ◌/◌, ◌%◌, ◌≤◌, ◌<◌}
-use mathlib.Core.Path.{◌≡◌, refl, ap, ◌∙◌}
+use mathlib.Core.Path.{◌≡◌, ap, ◌∙◌}
 use mathlib.Core.Bool.{Bool, true, false, ◌&&◌}
 use mathlib.Core.List.{List}
 use mathlib.Core.Logic.{◌⊎◌, inl, inr}
@@ -16,14 +16,13 @@ use Rattle.arithmetic.proofs.Quotients.{ceil_low, ceil_high, ceil_mono}
 use Rattle.pixels.specs.Sizes.{pixel_lanes, max_side}
 use Rattle.pixels.proofs.Truths.{both_true}
 use Rattle.pixels_layout.specs.declared.PixelLayout.{PixelLayout}
-use Rattle.pixels_layout.specs.declared.PixelLayout.TheVariants.{Rgba8, Argb8, Bgra8}
 use Rattle.pixels_layout.specs.Layout.{places_of}
 use Rattle.rows.specs.Column.{start}
 use Rattle.rows.specs.Inner.Import.{Bytes}
 use Rattle.rows.proofs.Lanes.{byte_byte}
 use Rattle.rows.proofs.Tones.{toned_at_byte}
 use Rattle.rows_gathering.specs.Gathered.{pixels_of, every_second, block_columns, block_fits, entry_of, summed, read_at, gathered_sums, gathered_pixels}
-use Rattle.rows_gathering.specs.Inner.{Ends, BlockFits, step_sum}
+use Rattle.rows_gathering.specs.Inner.{BlockFits, step_sum}
 
 -- ---- every second pixel
 pub step_zero : (p : ℕ → ℕ) (x h : ℕ) → step_sum p x h 0 ≡ 0
@@ -128,12 +127,6 @@ module _ (n m first bytes : ℕ) where
   pub fits_whole : BlockFits n m first → eqb bytes (pixel_lanes * n) ≡ block_fits n m first bytes
   unfolding block_fits
   fits_whole f = simp (le-leb m n f.shrinks, le-leb n max_side f.n_small, lt-ltb n (512 * m) f.short, lt-ltb first m f.inside)
-
--- a layout has its alpha first or last
-pub alpha_ends : (layout : PixelLayout) → Ends (places_of layout).a
-alpha_ends Rgba8 = inr refl
-alpha_ends Argb8 = inl refl
-alpha_ends Bgra8 = inr refl
 
 -- a column has at most 512 pixels
 pub pixels_most : (n m j : ℕ) → n < 512 * m → pixels_of n m j ≤ 512

@@ -2,8 +2,9 @@
 -- serves every way in which a byte is read. Assumes nothing.
 use Prim.Native.Nat.{ℕ, suc, ◌+◌, ◌-◌, ◌*◌, ◌/◌, ◌%◌, ◌≤◌, ◌<◌}
 use mathlib.Core.Path.{◌≡◌, refl, sym, ap, ap₂, ◌∙◌}
+use mathlib.Core.Bool.{Bool, true, false, cond}
 use mathlib.Core.List.{List}
-use mathlib.Core.Logic.{◌⊎◌, inl, inr, ⊎_elim}
+use borrow.Author.Tests.{ne_eqb}
 use native.Mathlib.Omega.{arith}
 use native.Mathlib.Nat.{add-zero, mul-le-mul, lt_of_mul-lt-mul_right, le_of_mul-le-mul_right}
 use Rattle.rows.specs.declared.Own.{Own}
@@ -12,8 +13,8 @@ use Rattle.rows.specs.Inner.Import.{Four, oct_at, Eight, byte_at}
 use Rattle.rows.proofs.Tones.{toned_zero}
 use Rattle.rows.proofs.Lanes.{each, both, three, each8, three8}
 use Rattle.rows.specs.declared.Oct.{Oct}
-use Rattle.rows_gathering.specs.Gathered.{every_second}
-use Rattle.rows_gathering.specs.Inner.{PixelsAsk, OneIs, Ends, OwnAsks, ColumnAsks, step_sum}
+use Rattle.rows_gathering.specs.Gathered.{every_second, read_at}
+use Rattle.rows_gathering.specs.Inner.{PixelsAsk, OneIs, ColumnAsks, step_sum}
 use Rattle.rows_gathering.proofs.Blocks.{step_zero, step_suc, step_most, second_even, second_odd, second_less}
 
 -- ---- pixels read
@@ -23,17 +24,20 @@ pub pair_is : (p : ℕ → ℕ → ℕ) (x : ℕ) (r : Oct) → Four (λ k. oct_
 pair_is p x r first second = record { even = each (λ k e. e ∙ ap (p k) (sym (add-zero x))) first; odd = second }
 
 -- the four bytes of a pixel, by its alpha with what is or-ed to it
-pub toned_own : (s : List ℕ) (place x : ℕ) (o : Own) (v : ℕ → ℕ) → OwnAsks place o → Four (λ k. v k ≡ toned (byte_at s k x) (byte_at s place x) (own_of o k))
+pub toned_own : (s : List ℕ) (place x : ℕ) (o : Own) (v : ℕ → ℕ) → Four (λ k. own_of o k ≡ own_at place k) → Four (λ k. v k ≡ toned (byte_at s k x) (byte_at s place x) (own_of o k))
     → Four (λ k. v k ≡ toned_at s place k x)
 unfolding toned_at
-toned_own s place x o v a f = both (λ k e g. g ∙ ap (toned (byte_at s k x) (byte_at s place x)) e) a.own f
+toned_own s place x o v own f = both (λ k e g. g ∙ ap (toned (byte_at s k x) (byte_at s place x)) e) own f
 
-pub own_asks : {place : ℕ} {o : Own} → Ends place → Four (λ k. own_of o k ≡ own_at place k) → OwnAsks place o
-own_asks {place} e own = record { within = ⊎_elim (λ q. omega arith) (λ q. omega arith) e; ends = e; own = own }
+-- the same as they are read, where the alpha is read at the place p
+pub read_own : (plain : Bool) (s : List ℕ) (place p x : ℕ) (o : Own) (v : ℕ → ℕ) → Four (λ k. own_of o k ≡ own_at place k) → (plain ≡ false → p ≡ place)
+    → Four (λ k. v k ≡ cond plain (byte_at s k x) (toned (byte_at s k x) (byte_at s p x) (own_of o k))) → Four (λ k. v k ≡ read_at plain s place k x)
+read_own true s place p x o v own is f = f
+read_own false s place p x o v own is f = toned_own s place x o v own (rw (is refl) at f)
 
 -- an alpha that does not stand first stands last
-pub own_last : {place : ℕ} {o : Own} → OwnAsks place o → (place ≡ 0 → ⊥) → 3 ≡ place
-own_last a h = ⊎_elim (λ e. absurd (h e)) (λ e. sym e) a.ends
+pub own_last : {place : ℕ} → place < 4 → place % 3 ≡ 0 → (place ≡ 0 → ⊥) → 3 ≡ place
+own_last a b h = omega arith
 
 -- ---- the loop: x is the next pixel, and `got` counts the turns by m
 pub record Pairing (p : ℕ → ℕ → ℕ) (from count m : ℕ) (sums : Oct) (x got : ℕ) : Type 0 where
@@ -112,13 +116,9 @@ module _ (p : ℕ → ℕ → ℕ) (from count : ℕ) {sums : Oct} (pairs : Eigh
           omega (arith, y-is, z-is, w-is, second_less (p k) from count e, step_most (p k) (byte k) from 1 (count / 2))
 
 -- ---- nothing is or-ed for the second byte, which is a colour's wherever the alpha stands
-pub own_none : {place : ℕ} {o : Own} → OwnAsks place o → o.b ≡ 0
+pub own_none : (place : ℕ) {o : Own} → place % 3 ≡ 0 → Four (λ k. own_of o k ≡ own_at place k) → o.b ≡ 0
 unfolding own_at
-own_none {place} {o} a = a.own.l1 ∙ by a.ends
-  where
-    by : (place ≡ 0) ⊎ (place ≡ 3) → own_at place 1 ≡ 0
-    by (inl e) = rw e refl
-    by (inr e) = rw e refl
+own_none place {o} ends own = own.l1 ∙ simp (ne_eqb 1 place (λ e. omega arith))
 
 pub toned_nothing : (c q none r : ℕ) → none ≡ 0 → q ≡ none → r ≡ toned c q none → r ≡ 0
 toned_nothing c q none r e f g = g ∙ ap₂ (toned c) (f ∙ e) e ∙ toned_zero c

@@ -1,10 +1,8 @@
 -- What the private functions ask and ensure. s are the row's bytes; p k x is byte k of pixel x as it is summed; k counts bytes of a pixel, h is 0 for the
 -- first of two pixels and 1 for the second. Assumes nothing.
-use Rattle.std.specs.Prelude.{ℕ, ◌+◌, ◌*◌, ◌≤◌, ◌<◌, ◌≡◌, List, ◌⊎◌, length, set}
+use Rattle.std.specs.Prelude.{ℕ, ◌+◌, ◌*◌, ◌≤◌, ◌<◌, ◌≡◌, List, length, set}
 use Rattle.arithmetic.specs.Sum.{sum}
 use Rattle.pixels.specs.Sizes.{pixel_lanes, max_side}
-use Rattle.rows.specs.declared.Own.{Own}
-use Rattle.rows.specs.Tones.{own_of, own_at}
 use Rattle.rows.specs.Inner.Import.{Four, oct_at, Bytes}
 use Rattle.rows.specs.declared.Oct.{Oct}
 
@@ -14,15 +12,6 @@ use Rattle.rows.specs.declared.Oct.{Oct}
 pub record PixelsAsk (s : List ℕ) (x count : ℕ) : Type 0 where
   pub whole : pixel_lanes * (x + count) ≤ length s
   pub small : x + count ≤ max_side
-
--- where the alphas stand, first or last, and what is or-ed to them
-abbrev pub Ends : ℕ → Type 0
-Ends place = (place ≡ 0) ⊎ (place ≡ 3)
-
-pub record OwnAsks (place : ℕ) (o : Own) : Type 0 where
-  pub within : place < pixel_lanes
-  pub ends : Ends place
-  pub own : Four (λ k. own_of o k ≡ own_at place k)
 
 -- r has the bytes of pixel x, and nothing beside it
 pub record OneIs (p : ℕ → ℕ → ℕ) (x : ℕ) (r : Oct) : Type 0 where

@@ -2,22 +2,22 @@
 // two pixels a turn, their bytes in eight 16-bit sums. So written the compiler makes one vector of the eight.
 #![tactic(auto)]
 
-ghost use Rattle.std.specs.Prelude.{◌≡◌, ◌+◌, ◌-◌, ◌*◌, ◌/◌, ◌%◌, ◌≤◌, ◌<◌, length};
+ghost use Rattle.std.specs.Prelude.{◌≡◌, cond, false, ◌+◌, ◌-◌, ◌*◌, ◌/◌, ◌%◌, ◌≤◌, ◌<◌, length};
 ghost use Rattle.pixels.specs.Sizes.{pixel_lanes};
 ghost use Rattle.rows.specs.Column.{start};
 ghost use Rattle.rows.specs.Tones.{toned, toned_at};
 ghost use Rattle.rows.specs.Inner.Import.{oct_at, Eight, byte_at, PixelAsks};
-ghost use Rattle.rows.specs.Inner.NextColumn.{NextAsks, NextIs};
 ghost use Rattle.rows_gathering.specs.Gathered.{every_second, block_columns, block_fits, summed, read_at, gathered_sums, gathered_pixels};
-ghost use Rattle.rows_gathering.specs.Inner.{PixelsAsk, OneIs, OwnAsks, ColumnAsks, step_sum, stored4, stored8, BlockFits, BlockAsks, Begins};
+ghost use Rattle.rows_gathering.specs.Inner.{PixelsAsk, OneIs, ColumnAsks, step_sum, stored4, stored8, BlockFits, BlockAsks, Begins};
 
 use pixels::PIXEL_LANES;
 use pixels_layout::PixelLayout;
-use rows::{Oct, Own, add8, own_at, tone, zero8};
+use rows::{Alpha, Column, Oct, Sharing, add8, tone, zero8};
 
-// ---- pixels matted as they are read
+// ---- a byte
 
 // Byte k of pixel x, by its pixel's alpha with `own` or-ed to it.
+// Kept: that pixels are in a row, and columns in it, is said of both, and no struct holds a row: PixelAsks, PixelsAsk and ColumnAsks stay in the contracts.
 fn toned_byte(row: &[u8], x: usize, k: usize, alpha: u8, own: u16) -> u16
     requires pixel_asks { PixelAsks row.now x }
     requires k_lt_pixel_lanes { k < pixel_lanes }
@@ -26,35 +26,61 @@ fn toned_byte(row: &[u8], x: usize, k: usize, alpha: u8, own: u16) -> u16
     tone(row[PIXEL_LANES * x + k], alpha, own) as u16
 }
 
-// Pixels x and x + 1.
-fn toned_pair(row: &[u8], x: usize, place: usize, o: Own) -> Oct
+// The same as it stands.
+fn plain_byte(row: &[u8], x: usize, k: usize) -> u16
+    requires pixel_asks { PixelAsks row.now x }
+    requires k_lt_pixel_lanes { k < pixel_lanes }
+    ensures { result ≡ byte_at row.now k x }
+{
+    row[PIXEL_LANES * x + k] as u16
+}
+
+// The one or the other.
+fn byte(row: &[u8], x: usize, k: usize, plain: bool, alpha: u8, own: u16) -> u16
+    requires pixel_asks { PixelAsks row.now x }
+    requires k_lt_pixel_lanes { k < pixel_lanes }
+    ensures { result ≡ cond plain (byte_at row.now k x) (toned (byte_at row.now k x) alpha own) }
+{
+    if plain {
+        return plain_byte(row, x, k);
+    }
+    toned_byte(row, x, k, alpha, own)
+}
+
+// ---- pixels
+
+// Pixels x and x + 1. `place` is the alpha's where it is asked for: a constant, see `pairs`.
+fn pair(row: &[u8], x: usize, plain: bool, place: usize, alpha: Alpha) -> Oct
     requires pixels_ask { PixelsAsk row.now x 2 }
-    requires own_asks { OwnAsks place o }
-    ensures { Eight (λ h k. oct_at result h k ≡ toned_at row.now place k (x + h)) }
+    requires place_lt_pixel_lanes { place < pixel_lanes }
+    requires place_is { plain ≡ false → place ≡ alpha.place }
+    ensures { Eight (λ h k. oct_at result h k ≡ read_at plain row.now alpha.place k (x + h)) }
 {
     let y = x + 1;
+    let o = alpha.own;
     let p = row[PIXEL_LANES * x + place];
     let q = row[PIXEL_LANES * y + place];
     Oct {
-        a: toned_byte(row, x, 0, p, o.a),
-        b: toned_byte(row, x, 1, p, o.b),
-        c: toned_byte(row, x, 2, p, o.c),
-        d: toned_byte(row, x, 3, p, o.d),
-        e: toned_byte(row, y, 0, q, o.a),
-        f: toned_byte(row, y, 1, q, o.b),
-        g: toned_byte(row, y, 2, q, o.c),
-        h: toned_byte(row, y, 3, q, o.d),
+        a: byte(row, x, 0, plain, p, o.a),
+        b: byte(row, x, 1, plain, p, o.b),
+        c: byte(row, x, 2, plain, p, o.c),
+        d: byte(row, x, 3, plain, p, o.d),
+        e: byte(row, y, 0, plain, q, o.a),
+        f: byte(row, y, 1, plain, q, o.b),
+        g: byte(row, y, 2, plain, q, o.c),
+        h: byte(row, y, 3, plain, q, o.d),
     }
 }
 
 // Pixel x alone, the first of two; the second is the same by an alpha of 0, so that the eight are made alike. That 0 is read from the table: one that the
 // compiler sees makes two vectors of them.
-fn toned_one(row: &[u8], x: usize, place: usize, o: Own) -> Oct
-    requires pixels_ask { PixelsAsk row.now x 1 }
-    requires own_asks { OwnAsks place o }
-    ensures { OneIs (toned_at row.now place) x result }
+// Kept beside plain_one, whose second four are no bytes of the row.
+fn toned_one(row: &[u8], x: usize, alpha: Alpha) -> Oct
+    requires { PixelsAsk row.now x 1 }
+    ensures { OneIs (toned_at row.now alpha.place) x result }
 {
-    let p = row[PIXEL_LANES * x + place];
+    let o = alpha.own;
+    let p = row[PIXEL_LANES * x + alpha.place];
     let none = o.b;
     let q = none as u8;
     Oct {
@@ -69,36 +95,7 @@ fn toned_one(row: &[u8], x: usize, place: usize, o: Own) -> Oct
     }
 }
 
-// ---- pixels as they stand
-
-// Byte k of pixel x.
-fn plain_byte(row: &[u8], x: usize, k: usize) -> u16
-    requires pixel_asks { PixelAsks row.now x }
-    requires k_lt_pixel_lanes { k < pixel_lanes }
-    ensures { result ≡ byte_at row.now k x }
-{
-    row[PIXEL_LANES * x + k] as u16
-}
-
-// Pixels x and x + 1.
-fn plain_pair(row: &[u8], x: usize) -> Oct
-    requires { PixelsAsk row.now x 2 }
-    ensures { Eight (λ h k. oct_at result h k ≡ byte_at row.now k (x + h)) }
-{
-    let y = x + 1;
-    Oct {
-        a: plain_byte(row, x, 0),
-        b: plain_byte(row, x, 1),
-        c: plain_byte(row, x, 2),
-        d: plain_byte(row, x, 3),
-        e: plain_byte(row, y, 0),
-        f: plain_byte(row, y, 1),
-        g: plain_byte(row, y, 2),
-        h: plain_byte(row, y, 3),
-    }
-}
-
-// Pixel x alone, the first of two.
+// The same as it stands.
 fn plain_one(row: &[u8], x: usize) -> Oct
     requires { PixelsAsk row.now x 1 }
     ensures { OneIs (byte_at row.now) x result }
@@ -117,12 +114,19 @@ fn plain_one(row: &[u8], x: usize) -> Oct
 
 // ---- a column
 
-// The pairs of a column's pixels, alpha first. Its place is a constant, and the turns are counted by m: a place that varies makes no vector, and turns counted
-// in ones make vectors over turns, which are slower.
-fn pairs_first(row: &[u8], from: usize, count: usize, m: usize, o: Own) -> Oct
+// The pairs of a column's pixels, as they stand or matted. How, and where the alpha stands, are constants: a place that varies makes no vector.
+// Kept: the turns are counted by m, since those counted in ones make vectors over turns, which are slower.
+fn pairs<const PLAIN: bool, const PLACE: usize>(
+    row: &[u8],
+    from: usize,
+    count: usize,
+    m: usize,
+    alpha: Alpha,
+) -> Oct
     requires column_asks { ColumnAsks row.now from count m }
-    requires own_asks { OwnAsks 0 o }
-    ensures { Eight (λ h k. oct_at result h k ≡ step_sum (toned_at row.now 0 k) from h (count / 2)) }
+    requires place_lt_pixel_lanes { PLACE < pixel_lanes }
+    requires place_is { PLAIN ≡ false → PLACE ≡ alpha.place }
+    ensures { Eight (λ h k. oct_at result h k ≡ step_sum (read_at PLAIN row.now alpha.place k) from h (count / 2)) }
 {
     let limit = count * m;
     let mut sum = zero8();
@@ -131,94 +135,46 @@ fn pairs_first(row: &[u8], from: usize, count: usize, m: usize, o: Own) -> Oct
     while got < limit {
         got += m;
         got += m;
-        sum = add8(sum, toned_pair(row, x, 0, o));
-        x += 2;
-    }
-    sum
-}
-
-// The same, alpha last.
-fn pairs_last(row: &[u8], from: usize, count: usize, m: usize, o: Own) -> Oct
-    requires column_asks { ColumnAsks row.now from count m }
-    requires own_asks { OwnAsks 3 o }
-    ensures { Eight (λ h k. oct_at result h k ≡ step_sum (toned_at row.now 3 k) from h (count / 2)) }
-{
-    let limit = count * m;
-    let mut sum = zero8();
-    let mut x = from;
-    let mut got = m;
-    while got < limit {
-        got += m;
-        got += m;
-        sum = add8(sum, toned_pair(row, x, 3, o));
-        x += 2;
-    }
-    sum
-}
-
-// The same, no alpha matted by.
-fn pairs_plain(row: &[u8], from: usize, count: usize, m: usize) -> Oct
-    requires { ColumnAsks row.now from count m }
-    ensures { Eight (λ h k. oct_at result h k ≡ step_sum (byte_at row.now k) from h (count / 2)) }
-{
-    let limit = count * m;
-    let mut sum = zero8();
-    let mut x = from;
-    let mut got = m;
-    while got < limit {
-        got += m;
-        got += m;
-        sum = add8(sum, plain_pair(row, x));
+        sum = add8(sum, pair(row, x, PLAIN, PLACE, alpha));
         x += 2;
     }
     sum
 }
 
 // By how bytes are read.
-fn pairs(row: &[u8], from: usize, count: usize, m: usize, plain: bool, place: usize, o: Own) -> Oct
-    requires column_asks { ColumnAsks row.now from count m }
-    requires own_asks { OwnAsks place o }
-    ensures { Eight (λ h k. oct_at result h k ≡ step_sum (read_at plain row.now place k) from h (count / 2)) }
+fn pairs_by(row: &[u8], from: usize, count: usize, m: usize, plain: bool, alpha: Alpha) -> Oct
+    requires { ColumnAsks row.now from count m }
+    ensures { Eight (λ h k. oct_at result h k ≡ step_sum (read_at plain row.now alpha.place k) from h (count / 2)) }
 {
     if plain {
-        return pairs_plain(row, from, count, m);
+        return pairs::<true, 0>(row, from, count, m, alpha);
     }
-    if place == 0 {
-        return pairs_first(row, from, count, m, o);
+    if alpha.place == 0 {
+        return pairs::<false, 0>(row, from, count, m, alpha);
     }
-    pairs_last(row, from, count, m, o)
+    pairs::<false, 3>(row, from, count, m, alpha)
 }
 
-fn one(row: &[u8], x: usize, plain: bool, place: usize, o: Own) -> Oct
-    requires pixels_ask { PixelsAsk row.now x 1 }
-    requires own_asks { OwnAsks place o }
-    ensures { OneIs (read_at plain row.now place) x result }
+fn one(row: &[u8], x: usize, plain: bool, alpha: Alpha) -> Oct
+    requires { PixelsAsk row.now x 1 }
+    ensures { OneIs (read_at plain row.now alpha.place) x result }
 {
     if plain {
         return plain_one(row, x);
     }
-    toned_one(row, x, place, o)
+    toned_one(row, x, alpha)
 }
 
 // A column's pixels: its pairs, and its last one where their number is odd.
-fn column_sums(
-    row: &[u8],
-    from: usize,
-    count: usize,
-    m: usize,
-    plain: bool,
-    place: usize,
-    o: Own,
-) -> Oct
-    requires column_asks { ColumnAsks row.now from count m }
-    requires own_asks { OwnAsks place o }
-    ensures { Eight (λ h k. oct_at result h k ≡ every_second (read_at plain row.now place k) from count h) }
+fn column_sums(row: &[u8], from: usize, count: usize, m: usize, plain: bool, alpha: Alpha) -> Oct
+    requires { ColumnAsks row.now from count m }
+    ensures { Eight (λ h k. oct_at result h k ≡ every_second (read_at plain row.now alpha.place k) from count h) }
 {
-    let sum = pairs(row, from, count, m, plain, place, o);
+    let sum = pairs_by(row, from, count, m, plain, alpha);
     if count % 2 == 0 {
         return sum;
     }
-    add8(sum, one(row, from + count - 1, plain, place, o))
+    add8(sum, one(row, from + count - 1, plain, alpha))
 }
 
 // ---- a block of columns
@@ -243,14 +199,6 @@ fn put8(sums: &mut [u16; 256], k: usize, s: Oct)
     put4(sums, 8 * k + 4, s.e, s.f, s.g, s.h);
 }
 
-// The pixels of a column, from `from` up to `to`; `over` parts out of m of its last pixel are left over for the next.
-#[derive(Clone, Copy)]
-struct Column {
-    from: usize,
-    to: usize,
-    over: usize,
-}
-
 // What stands before column `first`.
 fn begin(n: usize, m: usize, first: usize) -> Column
     requires { BlockFits n m first }
@@ -261,25 +209,6 @@ fn begin(n: usize, m: usize, first: usize) -> Column
         from: x,
         to: x,
         over: x * m - first * n,
-    }
-}
-
-// The next column: it has n / m pixels, and one more where the parts left over do not reach.
-fn next_column(n: usize, m: usize, each: usize, rest: usize, c: Column) -> Column
-    requires { NextAsks n m each rest c.to c.over }
-    ensures { NextIs n m c.to c.over result.from result.to result.over }
-{
-    if c.over < rest {
-        return Column {
-            from: c.to,
-            to: c.to + each + 1,
-            over: c.over + m - rest,
-        };
-    }
-    Column {
-        from: c.to,
-        to: c.to + each,
-        over: c.over - rest,
     }
 }
 
@@ -302,36 +231,32 @@ fn whole(sums: [u16; 256])
 {}
 
 // Every column of the block. How many pixels they have.
+// Kept: n beside the row, as gather_block, which is public, has it.
 fn gather(
     row: &[u8],
     n: usize,
     m: usize,
     first: usize,
     plain: bool,
-    place: usize,
-    o: Own,
+    alpha: Alpha,
     sums: &mut [u16; 256],
 ) -> usize
     requires block_asks { BlockAsks row.now n m first }
-    requires own_asks { OwnAsks place o }
     requires sums_len { length sums.old ≡ 256 }
-    ensures sums { sums.new ≡ summed (read_at plain row.now place) n m first sums.old }
+    ensures sums { sums.new ≡ summed (read_at plain row.now alpha.place) n m first sums.old }
     ensures pixels { result ≡ start n m (first + block_columns m first) - start n m first }
 {
-    let each = n / m;
-    let rest = n % m;
+    let columns = Sharing::new(n, m);
     let count = block_columns(m, first);
     let mut c = begin(n, m, first);
     let x = c.to;
-    let mut k = 0usize;
-    while k < count {
-        c = next_column(n, m, each, rest, c);
+    for k in 0..count {
+        c = columns.next(c);
         put8(
             sums,
             k,
-            column_sums(row, c.from, c.to - c.from, m, plain, place, o),
+            column_sums(row, c.from, c.to - c.from, m, plain, alpha),
         );
-        k += 1;
     }
     c.to - x
 }
@@ -373,7 +298,5 @@ pub fn gather_block(
         return 0;
     }
     whole(*sums);
-    let place = layout.alpha_byte_offset();
-    let o = own_at(place);
-    gather(row, n, m, first, plain, place, o, sums)
+    gather(row, n, m, first, plain, Alpha::of(layout), sums)
 }

@@ -1,7 +1,7 @@
 // A picture's row whose width grows (SCOPE, "A row comes in"; the Rust: Rescaler::import_row of geometry.rs): matted as its bytes are read, the four lanes
 // at once. Within a pair of pixels a column is the one before less (left - right) × step; products are made only where a pixel is passed. Work values wrap.
 //
-// What keeps the four lanes one vector: a function for each layout with its places written out (bytes at places that vary are read one by one); Quads
+// What keeps the four lanes one vector: places that are constants, a copy of the loop for each layout (bytes at places that vary are read one by one); Quads
 // assigned one by one (a struct of several is taken apart); the alpha matted too, by a 255 out of a table (one that the compiler sees makes that lane unlike
 // the others); remainders that change nothing and tell how small a factor is (one product of 16 bits then does for six steps in 32).
 #![tactic(auto)]
@@ -9,42 +9,49 @@
 ghost use Rattle.std.specs.Prelude.{◌≡◌, ◌+◌, ◌*◌, ◌/◌, ◌≤◌, ◌<◌, length};
 ghost use Rattle.arithmetic.specs.Word.{wrap_add, wrap_sub, wrap_mul};
 ghost use Rattle.pixels.specs.Sizes.{max_side, pixel_lanes};
-ghost use Rattle.pixels.specs.Refusals.{checked_number};
-ghost use Rattle.pixels_layout.specs.declared.PixelLayout.TheVariants.{Rgba8, Argb8, Bgra8};
+ghost use Rattle.pixels.specs.Refusals.{answer_number};
 ghost use Rattle.pixels_layout.specs.Layout.{places_of};
 ghost use Rattle.rows_tests.specs.Tests.{import_number};
-ghost use Rattle.rows.specs.Tones.{orred, toned};
 ghost use Rattle.rows.specs.Inner.Import.{at, Four, stored, byte_at, lane_bytes, PixelAsks, Within, written_row, RowAsks};
 ghost use Rattle.rows_growing.specs.Growing.{grown_half};
-ghost use Rattle.rows_growing.specs.Inner.{Owns, ShareAsks, BetweenAsks, GrowAsks};
+ghost use Rattle.rows_growing.specs.Inner.{ShareAsks, BetweenAsks, GrowAsks, placed};
 
 use arithmetic::wrapping_mul;
-use pixels::{Checked, PIXEL_LANES};
+use pixels::{PIXEL_LANES, Refusal};
 use pixels_layout::{PixelLayout, Places};
-use rows::{Quad, add4, own_at, sub4, times4};
+use rows::{Mask, Quad, add4, own_at, sub4, times4};
 use rows_tests::check_import;
 
 // ---- a pixel
 
-// The alpha for a colour, 255 for the alpha itself.
-fn factor(alpha: u8, own: u16) -> u16
-    requires { own ≤ 255 }
-    ensures is { result ≡ orred alpha own }
-    ensures small { result ≤ 255 }
-{
-    alpha as u16 | own
+// What is or-ed to the alpha for a colour, nothing, and for the alpha itself, all bits.
+#[derive(Clone, Copy)]
+struct Masks {
+    colour: Mask,
+    alpha: Mask,
+    ghost colour_is: { colour.bits ≡ 0 },
+    ghost alpha_is: { alpha.bits ≡ 255 },
 }
 
-// rows::tone without its remainder, which costs these loops their vectors.
-fn tone(byte: u8, alpha: u8, own: u16) -> u32
-    requires { own ≤ 255 }
-    ensures { result ≡ toned byte alpha own }
-{
-    let t = byte as u16 * factor(alpha, own) + 128;
-    t as u32 * 257 / 65536
+impl Masks {
+    // The alpha stands first or last. Its place is read from a table at run time, so that the compiler does not see what is or-ed. Made without `new`, which takes
+    // a remainder.
+    fn of(layout: PixelLayout) -> Masks {
+        let p = layout.places();
+        let own = own_at(p.a);
+        let none = Mask { bits: own.b };
+        let all = Mask {
+            bits: own.a + own.d,
+        };
+        Masks {
+            colour: none,
+            alpha: all,
+        }
+    }
 }
 
 // Byte k of pixel x.
+// Kept: that a pixel is in a row is said of both, and no struct holds a row: PixelAsks, and RowAsks below, stay in the contracts.
 fn byte(row: &[u8], x: usize, k: usize) -> u8
     requires pixel_asks { PixelAsks row.now x }
     requires k_lt_pixel_lanes { k < pixel_lanes }
@@ -53,19 +60,18 @@ fn byte(row: &[u8], x: usize, k: usize) -> u8
     row[PIXEL_LANES * x + k]
 }
 
-// Pixel x as lanes B, G, R, A; `none` and `all` are what is or-ed for a colour and for the alpha.
-fn read(row: &[u8], x: usize, p: Places, none: u16, all: u16) -> Quad
+// Pixel x as lanes B, G, R, A.
+fn read(row: &[u8], x: usize, p: Places, masks: Masks) -> Quad
     requires pixel_asks { PixelAsks row.now x }
     requires within { Within p }
-    requires owns { Owns none all }
     ensures { Four (λ k. at result k ≡ lane_bytes p row.now k x) }
 {
     let alpha = byte(row, x, p.a);
     Quad {
-        a: tone(byte(row, x, p.b), alpha, none),
-        b: tone(byte(row, x, p.g), alpha, none),
-        c: tone(byte(row, x, p.r), alpha, none),
-        d: tone(alpha, alpha, all),
+        a: masks.colour.tone(byte(row, x, p.b), alpha),
+        b: masks.colour.tone(byte(row, x, p.g), alpha),
+        c: masks.colour.tone(byte(row, x, p.r), alpha),
+        d: masks.alpha.tone(alpha, alpha),
     }
 }
 
@@ -101,6 +107,7 @@ fn fall_of(left: Quad, right: Quad, step: u32) -> Quad
 }
 
 // Stores the four values of column j.
+// Kept, as that of rows_pixels: one for both would be public, and would test anew the bounds that are proved here.
 fn put4(half: &mut [u32], j: usize, v: Quad)
     requires { (pixel_lanes * j + pixel_lanes ≤ length half.old) × (j < max_side) }
     ensures { half.new ≡ stored half.old j v }
@@ -112,79 +119,43 @@ fn put4(half: &mut [u32], j: usize, v: Quad)
     half[i + 3] = v.d;
 }
 
-// ---- every column, a layout at a time. The Rust: Rescaler::import_row_expand; libwebp: WebPRescalerImportRowExpand_C.
-// A row comes begun: two pixels share span parts, a column goes on by step of them, and value is the first column's.
+// ---- every column. The Rust: Rescaler::import_row_expand; libwebp: WebPRescalerImportRowExpand_C.
 
-fn grow_rgba(
-    row: &[u8],
-    m: usize,
-    none: u16,
-    all: u16,
-    span: u32,
-    step: u32,
-    mut right: Quad,
-    mut fall: Quad,
-    mut value: Quad,
-    half: &mut [u32],
-)
-    requires grow_asks { GrowAsks row.now half.old (places_of Rgba8) (length row.now / pixel_lanes) m span step right fall value }
-    requires owns { Owns none all }
-    ensures { half.new ≡ written_row (places_of Rgba8) (length row.now / pixel_lanes) m row.now half.old }
-{
-    let p = Places {
-        b: 2,
-        g: 1,
-        r: 0,
-        a: 3,
-    };
-    let mut x = 0usize;
-    let mut acc = span;
-    let mut j = 0usize;
-    loop {
-        put4(half, j, value);
-        j += 1;
-        if j >= m {
-            break;
-        }
-        if acc >= step {
-            acc = acc - step;
-            value = sub4(value, fall);
-            continue;
-        }
-        acc = acc + span - step;
-        let next = read(row, x + 2, p, none, all);
-        value = between(right, next, acc, span - acc);
-        fall = fall_of(right, next, step);
-        right = next;
-        x += 1;
-    }
+// A row begun: `right` is its second pixel, and the first column is `value`, the next one less `fall`.
+#[derive(Clone, Copy)]
+struct Begun {
+    right: Quad,
+    fall: Quad,
+    value: Quad,
 }
 
-fn grow_argb(
+// By places that are constants. Two pixels share span parts, and a column goes on by step of them.
+// Kept: a row comes begun. Begun here, by constants, its lanes would keep the order of the bytes, and the store of each column would sort them.
+fn grow_by<const B: usize, const G: usize, const R: usize, const A: usize>(
     row: &[u8],
     m: usize,
-    none: u16,
-    all: u16,
-    span: u32,
-    step: u32,
-    mut right: Quad,
-    mut fall: Quad,
-    mut value: Quad,
+    masks: Masks,
+    begun: Begun,
     half: &mut [u32],
 )
-    requires grow_asks { GrowAsks row.now half.old (places_of Argb8) (length row.now / pixel_lanes) m span step right fall value }
-    requires owns { Owns none all }
-    ensures { half.new ≡ written_row (places_of Argb8) (length row.now / pixel_lanes) m row.now half.old }
+    requires { GrowAsks row.now half.old (placed B G R A) (length row.now / pixel_lanes) m begun.right begun.fall begun.value }
+    ensures { half.new ≡ written_row (placed B G R A) (length row.now / pixel_lanes) m row.now half.old }
 {
     let p = Places {
-        b: 3,
-        g: 2,
-        r: 1,
-        a: 0,
+        b: B,
+        g: G,
+        r: R,
+        a: A,
     };
+    let span = (m - 1) as u32;
+    let step = (row.len() / PIXEL_LANES - 1) as u32;
+    let mut right = begun.right;
+    let mut fall = begun.fall;
+    let mut value = begun.value;
     let mut x = 0usize;
     let mut acc = span;
     let mut j = 0usize;
+    // Kept: as a `for` with a break at its end the compiler makes no vector of the lanes.
     loop {
         put4(half, j, value);
         j += 1;
@@ -197,52 +168,7 @@ fn grow_argb(
             continue;
         }
         acc = acc + span - step;
-        let next = read(row, x + 2, p, none, all);
-        value = between(right, next, acc, span - acc);
-        fall = fall_of(right, next, step);
-        right = next;
-        x += 1;
-    }
-}
-
-fn grow_bgra(
-    row: &[u8],
-    m: usize,
-    none: u16,
-    all: u16,
-    span: u32,
-    step: u32,
-    mut right: Quad,
-    mut fall: Quad,
-    mut value: Quad,
-    half: &mut [u32],
-)
-    requires grow_asks { GrowAsks row.now half.old (places_of Bgra8) (length row.now / pixel_lanes) m span step right fall value }
-    requires owns { Owns none all }
-    ensures { half.new ≡ written_row (places_of Bgra8) (length row.now / pixel_lanes) m row.now half.old }
-{
-    let p = Places {
-        b: 0,
-        g: 1,
-        r: 2,
-        a: 3,
-    };
-    let mut x = 0usize;
-    let mut acc = span;
-    let mut j = 0usize;
-    loop {
-        put4(half, j, value);
-        j += 1;
-        if j >= m {
-            break;
-        }
-        if acc >= step {
-            acc = acc - step;
-            value = sub4(value, fall);
-            continue;
-        }
-        acc = acc + span - step;
-        let next = read(row, x + 2, p, none, all);
+        let next = read(row, x + 2, p, masks);
         value = between(right, next, acc, span - acc);
         fall = fall_of(right, next, step);
         right = next;
@@ -251,27 +177,24 @@ fn grow_bgra(
 }
 
 // By the layout.
-fn grow(layout: PixelLayout, row: &[u8], n: usize, m: usize, half: &mut [u32])
-    requires row_asks { RowAsks row.now half.old n m (places_of layout) }
-    requires n_lt_m { n < m }
-    ensures { half.new ≡ written_row (places_of layout) n m row.now half.old }
+fn grow(layout: PixelLayout, row: &[u8], m: usize, half: &mut [u32])
+    requires row_asks { RowAsks row.now half.old (length row.now / pixel_lanes) m (places_of layout) }
+    requires grows { length row.now / pixel_lanes < m }
+    ensures { half.new ≡ written_row (places_of layout) (length row.now / pixel_lanes) m row.now half.old }
 {
     let p = layout.places();
-    // The alpha stands first or last.
-    let own = own_at(p.a);
-    let none = own.b;
-    let all = own.a + own.d;
-    let span = (m - 1) as u32;
-    let step = (n - 1) as u32;
-    let left = read(row, 0, p, none, all);
+    let masks = Masks::of(layout);
+    let n = row.len() / PIXEL_LANES;
+    let left = read(row, 0, p, masks);
     // The second pixel; of one pixel, itself: no pixel past the crop is read. The Rust: `right` of Rescaler::import_row_expand.
-    let right = read(row, 1 % n, p, none, all);
-    let fall = fall_of(left, right, step);
-    let value = between(left, right, span, 0);
+    let right = read(row, 1 % n, p, masks);
+    let fall = fall_of(left, right, (n - 1) as u32);
+    let value = between(left, right, (m - 1) as u32, 0);
+    let begun = Begun { right, fall, value };
     match layout {
-        PixelLayout::Rgba8 => grow_rgba(row, m, none, all, span, step, right, fall, value, half),
-        PixelLayout::Argb8 => grow_argb(row, m, none, all, span, step, right, fall, value, half),
-        PixelLayout::Bgra8 => grow_bgra(row, m, none, all, span, step, right, fall, value, half),
+        PixelLayout::Rgba8 => grow_by::<2, 1, 0, 3>(row, m, masks, begun, half),
+        PixelLayout::Argb8 => grow_by::<3, 2, 1, 0>(row, m, masks, begun, half),
+        PixelLayout::Bgra8 => grow_by::<0, 1, 2, 3>(row, m, masks, begun, half),
     }
 }
 
@@ -283,30 +206,19 @@ pub fn widen_row(
     target_width: u32,
     row: &[u8],
     half: &mut [u32],
-) -> Checked
-    ensures number { checked_number result ≡ import_number pixel_lanes crop_width target_width (length row.now) (length half.old) }
+) -> Result<(), Refusal>
+    ensures number { answer_number result ≡ import_number pixel_lanes crop_width target_width (length row.now) (length half.old) }
     ensures half { half.new ≡ grown_half layout crop_width target_width row.now half.old }
 {
-    let checked = check_import(
+    check_import(
         PIXEL_LANES as u32,
         crop_width,
         target_width,
         row.len(),
         half.len(),
-    );
-    match checked {
-        Checked::Refused(_) => {}
-        Checked::Fit => {
-            if crop_width < target_width {
-                grow(
-                    layout,
-                    row,
-                    crop_width as usize,
-                    target_width as usize,
-                    half,
-                );
-            }
-        }
+    )?;
+    if crop_width < target_width {
+        grow(layout, row, target_width as usize, half);
     }
-    checked
+    Ok(())
 }

@@ -2,11 +2,11 @@
 #![tactic(auto)]
 
 ghost use Rattle.std.specs.Prelude.{◌≡◌, length};
-ghost use Rattle.pixels.specs.Refusals.{checked_number};
+ghost use Rattle.pixels.specs.Refusals.{answer_number};
 ghost use Rattle.rows_form.specs.Form.{lanes_in};
 ghost use Rattle.rows_in.specs.In.{in_number, in_work};
 
-use pixels::{Checked, Dimensions, Rect};
+use pixels::{Dimensions, Rect, Refusal};
 use pixels_crop::window;
 use rows_adding::put_row;
 use rows_form::RowForm;
@@ -20,16 +20,16 @@ pub fn put_source_row(
     s: u32,
     row: &[u8],
     work: &mut [u32],
-) -> Checked
-    ensures number { checked_number result ≡ in_number (lanes_in form) crop target s row.now (length work.old) }
+) -> Result<(), Refusal>
+    ensures number { answer_number result ≡ in_number (lanes_in form) crop target s row.now (length work.old) }
     ensures work { work.new ≡ in_work form crop target s row.now work.old }
 {
     if s < crop.y {
-        return Checked::Fit;
+        return Ok(());
     }
     let c = s - crop.y;
     if crop.height <= c {
-        return Checked::Fit;
+        return Ok(());
     }
     let part = window(form.lanes(), row, crop.x, crop.width);
     let size = Dimensions {

@@ -3,14 +3,14 @@
 
 ghost use Rattle.std.specs.Prelude.{◌≡◌, length};
 ghost use Rattle.arithmetic.specs.Weight as weight;
-ghost use Rattle.pixels.specs.Refusals.{checked_number, flagged_number, flagged_flag};
+ghost use Rattle.pixels.specs.Refusals.{answer_number, flagged_flag};
 ghost use Rattle.rows_form.specs.Form.{lanes_in};
 ghost use Rattle.rows_tests.specs.Tests.{scale_number};
 ghost use Rattle.rows_out.specs.Scaled.{scaled_out, scaled_work};
 ghost use Rattle.rows_out.specs.Inner.{finish_number, finish_flag, finish_out};
 ghost use Rattle.rows_out.specs.Out.{out_number, out_flag, out_row, out_work};
 
-use pixels::{Checked, Dimensions, Flagged, Rect};
+use pixels::{Dimensions, Rect, Refusal};
 use rows_form::RowForm;
 use rows_restoring::restore_row;
 use rows_scaling::scale_values;
@@ -37,18 +37,12 @@ pub fn scale_row(
     row: u32,
     out: &mut [u8],
     work: &mut [u32],
-) -> Checked
-    ensures number { checked_number result ≡ scale_number lanes crop target used row (length out.old) (length work.old) }
+) -> Result<(), Refusal>
+    ensures number { answer_number result ≡ scale_number lanes crop target used row (length out.old) (length work.old) }
     ensures out { out.new ≡ scaled_out lanes crop target used row out.old work.old }
     ensures work { work.new ≡ scaled_work lanes crop target used row (length out.old) work.old }
 {
-    let checked = check_scale(lanes, crop, target, used, row, out.len(), work.len());
-    match checked {
-        Checked::Refused(why) => {
-            return Checked::Refused(why);
-        }
-        Checked::Fit => {}
-    }
+    check_scale(lanes, crop, target, used, row, out.len(), work.len())?;
     let s = RowScale {
         span: span(crop.width, target.width),
         h: crop.height,
@@ -59,14 +53,14 @@ pub fn scale_row(
 }
 
 // The lanes of a row, as they are to be handed out: those of a picture restored and packed, those of a plane as they are. Returns the row's alpha flag.
-fn finish_row(form: RowForm, width: u32, out: &mut [u8]) -> Flagged
-    ensures number { flagged_number result ≡ finish_number form width (length out.old) }
+fn finish_row(form: RowForm, width: u32, out: &mut [u8]) -> Result<bool, Refusal>
+    ensures number { answer_number result ≡ finish_number form width (length out.old) }
     ensures flag { flagged_flag result ≡ finish_flag form width out.old }
     ensures out { out.new ≡ finish_out form width out.old }
 {
     match form {
         RowForm::Pixels(layout) => restore_row(layout, width, out),
-        RowForm::Plain(_) => Flagged::Flag(false),
+        RowForm::Plain(_) => Ok(false),
     }
 }
 
@@ -80,8 +74,8 @@ pub fn take_row(
     row: u32,
     out: &mut [u8],
     work: &mut [u32],
-) -> Flagged
-    ensures number { flagged_number result ≡ out_number (lanes_in form) crop target accepted row (length out.old) (length work.old) }
+) -> Result<bool, Refusal>
+    ensures number { answer_number result ≡ out_number (lanes_in form) crop target accepted row (length out.old) (length work.old) }
     ensures flag { flagged_flag result ≡ out_flag form crop target accepted row (length out.old) work.old }
     ensures out { out.new ≡ out_row form crop target accepted row out.old work.old }
     ensures work { work.new ≡ out_work (lanes_in form) crop target accepted row (length out.old) work.old }
@@ -91,9 +85,6 @@ pub fn take_row(
         width: crop.width,
         height: crop.height,
     };
-    let scaled = scale_row(form.lanes(), size, target, used, row, out, work);
-    match scaled {
-        Checked::Refused(why) => Flagged::Refused(why),
-        Checked::Fit => finish_row(form, target.width, out),
-    }
+    scale_row(form.lanes(), size, target, used, row, out, work)?;
+    finish_row(form, target.width, out)
 }

@@ -1,10 +1,10 @@
 -- The columns of a row from the sums of their blocks. Assumes nothing.
-use Prim.Native.Nat.{ℕ, zero, suc, ◌+◌, ◌-◌, ◌*◌, ◌/◌, ◌%◌, ◌^◌, ◌≤◌, ◌<◌, min}
-use mathlib.Core.Path.{◌≡◌, refl, sym, ap, subst, ◌∙◌}
+use Prim.Native.Nat.{ℕ, suc, ◌+◌, ◌-◌, ◌*◌, ◌/◌, ◌%◌, ◌^◌, ◌≤◌, ◌<◌, min}
+use mathlib.Core.Path.{◌≡◌, refl, sym, ap, ◌∙◌}
 use mathlib.Core.Bool.{true}
 use mathlib.Core.List.{List}
 use native.Mathlib.Omega.{arith}
-use native.Mathlib.Nat.{mul-zero, mul-le-mul_right}
+use native.Mathlib.Nat.{mul-zero, mul-le-mul_right, div-add-mod, mod-lt}
 use lib.ListN.{length, get_or}
 use Rattle.arithmetic.specs.FixedPoint.{mult, frac}
 use Rattle.arithmetic.specs.Sum.{sum}
@@ -24,13 +24,13 @@ use Rattle.rows_gathering.specs.Gathered.{block_fits}
 use Rattle.rows_gathering.proofs.Blocks.{block_sides, block_good}
 use Rattle.rows_summing.specs.Sums.{block_sums}
 use Rattle.rows_summing.proofs.Blocks.{block_column}
-use Rattle.rows_pixels.specs.Inner.{Apart, PairAsks, Filled, Ready, FillAsks, BlockAsks, InLanes, in_lanes, EndAsks, end_value, end_carry}
+use Rattle.rows_pixels.specs.Inner.{Apart, PairAsks, Filled, Ready, FillAsks, BlockAsks, InLanes, EndAsks, end_value, end_carry}
 use Rattle.arithmetic.proofs.Quotients.{div_high}
 use Rattle.arithmetic.proofs.Sums.{sum_most}
 use Rattle.rows.proofs.NextColumn.{next_even}
 use Rattle.rows.proofs.Tones.{toned_at_byte}
 use Rattle.rows_pixels.proofs.Bytes.{ended_lanes}
-use Rattle.rows_pixels.proofs.Standing.{Standing, standing_first, standing_next, standing_end, inside, standing_more}
+use Rattle.rows_pixels.proofs.Standing.{Standing, standing_first, standing_end, inside, standing_more}
 
 -- ---- the alpha of a layout has a place of its own
 pub apart_of : (layout : PixelLayout) (p : Places) → p ≡ places_of layout → Apart p
@@ -70,13 +70,16 @@ module _ {s sums : List ℕ} {place n m : ℕ} (j : ℕ) (f : Filled s place n m
       f.column (j % 32) (omega arith) in
       both (λ i q c. q ∙ c ∙ ap (column_sum (toned_at s place i) n m) here) e column
 
--- the alpha's place of the layout is that of its places
-pub ready_in : {layout : PixelLayout} {s sums : List ℕ} {n m : ℕ} {p : Places} (j : ℕ) → BlockAsks layout n m p → Ready s p.a n m j sums → Ready s (places_of layout).a n m j sums
-ready_in {s = s} {sums = sums} {n = n} {m = m} j b r = subst (λ (q : Places). Ready s q.a n m j sums) b.places r
+-- ---- by the places that a layout told
+module _ (layout : PixelLayout) {p : Places} (e : p ≡ places_of layout) where
+  pub row_in : {s half : List ℕ} {n m : ℕ} → RowAsks s half n m (places_of layout) → RowAsks s half n m p
+  row_in a = rw e a
 
-pub filled_out : {layout : PixelLayout} {s sums : List ℕ} {n m first : ℕ} {p : Places} → BlockAsks layout n m p → Filled s (places_of layout).a n m first sums
-    → Filled s p.a n m first sums
-filled_out {s = s} {sums = sums} {n = n} {m = m} {first = first} b f = subst (λ (q : Places). Filled s q.a n m first sums) (sym b.places) f
+  pub place_is : {place : ℕ} → place ≡ (places_of layout).a → place ≡ p.a
+  place_is is = is ∙ ap (λ (q : Places). q.a) (sym e)
+
+  pub filled_out : {s sums : List ℕ} {n m first : ℕ} → Filled s (places_of layout).a n m first sums → Filled s p.a n m first sums
+  filled_out f = rw e f
 
 -- ---- the pixels of a column, from where it stands
 module _ {s half₀ half : List ℕ} {n m : ℕ} {p : Places} {carry : Quad} {x over j x' over' : ℕ} (v : Standing s half₀ n m p half carry x over j)
@@ -110,13 +113,12 @@ module _ {s half₀ half : List ℕ} {n m : ℕ} {p : Places} {carry : Quad} {x 
   column_pixels = each (λ i e. e ∙ pixels i)
 
 -- ---- what a row's own tests lead to
-pub block_asks : {layout : PixelLayout} {s half : List ℕ} {n m : ℕ} {p : Places} → RowAsks s half n m p → m ≤ n → n / m < 512 → p ≡ places_of layout
-    → BlockAsks layout n m p
-block_asks {n = n} {m = m} a shrinks l e =
+pub block_asks : {s half : List ℕ} {n m : ℕ} {p : Places} → RowAsks s half n m p → m ≤ n → n / m < 512 → BlockAsks n m
+block_asks {n = n} {m = m} a shrinks l =
     let most : suc (n / m) * m ≤ 512 * m = mul-le-mul_right m l in
-    record { shrinks = shrinks; few = omega (arith, most, div_high n m a.m_pos); places = e }
+    record { shrinks = shrinks; few = omega (arith, most, div_high n m a.m_pos) }
 
-pub fill_asks : {layout : PixelLayout} {s half₀ : List ℕ} {n m j : ℕ} {p : Places} → RowAsks s half₀ n m p → BlockAsks layout n m p → j < m → FillAsks s n m j
+pub fill_asks : {s half₀ : List ℕ} {n m j : ℕ} {p : Places} → RowAsks s half₀ n m p → BlockAsks n m → j < m → FillAsks s n m j
 fill_asks a b below = record { shrinks = b.shrinks; n_small = a.n_small; few = b.few; below = below; whole = a.whole; bytes = a.bytes }
 
 -- ---- n is a multiple of m: no pixel is shared, and nothing is carried
@@ -130,7 +132,7 @@ module _ {s half₀ half : List ℕ} {n m : ℕ} {p : Places} {j : ℕ} (a : Row
     (v : Standing s half₀ n m p half nothing (n / m * j) 0 j) where
   whole_next : NextIs n m (n / m * j) 0 (n / m * j) (n / m * (j + 1)) 0
   whole_next =
-      let next : NextIs n m (n / m * j) 0 (n / m * j) (n / m * j + n / m) (0 - n % m) = next_even (standing_next a shrinks v) (omega arith) in
+      let next : NextIs n m (n / m * j) 0 (n / m * j) (n / m * j + n / m) (0 - n % m) = next_even (record { parts = omega (arith, div-add-mod n m); rest_small = mod-lt n a.m_pos; over_small = v.over_small; shrinks = shrinks; n_small = a.n_small; to_small = v.x_small }) (omega arith) in
       let to : n / m * j + n / m ≡ n / m * (j + 1) = omega arith in
       let none : 0 - n % m ≡ 0 = omega arith in
       rw (← to) (rw none at next)

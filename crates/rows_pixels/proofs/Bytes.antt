@@ -1,23 +1,22 @@
 -- The four bytes of a pixel side by side: pixels summed, and a column's end put into lanes. Assumes nothing.
-use Prim.Native.Nat.{ℕ, zero, suc, ◌+◌, ◌-◌, ◌*◌, ◌%◌, ◌≤◌, ◌<◌}
-use mathlib.Core.Path.{◌≡◌, refl, sym, ap, ap₂, ◌∙◌}
+use Prim.Native.Nat.{ℕ, zero, suc, ◌+◌, ◌-◌, ◌%◌, ◌≤◌, ◌<◌}
+use mathlib.Core.Path.{◌≡◌, refl, sym, ap, ◌∙◌}
 use mathlib.Core.List.{List, [], ◌∷◌}
 use native.Mathlib.Omega.{arith}
 use native.Mathlib.Nat.{mod-eq_of_lt}
-use lib.ListN.{length, get_or}
+use lib.ListN.{get_or}
 use Rattle.arithmetic.specs.FixedPoint.{mult}
 use Rattle.arithmetic.specs.Sum.{sum}
 use Rattle.arithmetic.specs.Word.{wrap_add, wrap_sub, wrap_mul}
 use Rattle.arithmetic.proofs.Sums.{sum_suc, sum_step, sum_none_yet}
 use Rattle.pixels.specs.Sizes.{pixel_lanes}
 use Rattle.pixels_layout.specs.declared.Places.{Places}
-use Rattle.rows.specs.declared.Own.{Own}
 use Rattle.rows.specs.declared.Quad.{Quad}
 use Rattle.rows.specs.Column.{Finished}
 use Rattle.rows.specs.Tones.{toned_at}
 use Rattle.rows.specs.Inner.Import.{at, Four, stored, PixelAsks, Within}
 use Rattle.rows.proofs.Lanes.{each, both, three, four_at}
-use Rattle.rows_pixels.specs.Inner.{InLanes, in_lanes, TotalAsks, EndAsks, end_value, end_carry}
+use Rattle.rows_pixels.specs.Inner.{InLanes, in_lanes, TotalAsks, end_value, end_carry}
 
 -- ---- four numbers as an array
 pub four_of : (q : Quad) (k : ℕ) → k < pixel_lanes → get_or (q.a ∷ q.b ∷ q.c ∷ q.d ∷ []) k 0 ≡ at q k
@@ -33,9 +32,9 @@ pub record Totalled (s : List ℕ) (from to place : ℕ) (total₀ total : Quad)
   pub so_far : x < to
   totals : Four (λ k. at total k ≡ wrap_add (at total₀ k) (sum (toned_at s place k) from (x - from)))
 
-pub totalled_first : {s : List ℕ} {from to place : ℕ} {o : Own} {total : Quad} (carry last : Quad) → TotalAsks s from to place o
+pub totalled_first : {s : List ℕ} (place : ℕ) {from to : ℕ} {total : Quad} (carry last : Quad) → TotalAsks s from to
     → Four (λ k. at total k ≡ wrap_add (at carry k) (at last k)) → Totalled s from to place total total from
-totalled_first {s} {from} {place = place} carry last a e =
+totalled_first {s} place {from} carry last a e =
     record {
       past = omega arith;
       so_far = a.some;
@@ -45,7 +44,7 @@ totalled_first {s} {from} {place = place} carry last a e =
     none : (c l : ℕ) {t u : ℕ} → t ≡ wrap_add c l → u ≡ 0 → t ≡ wrap_add t u
     none c l h g = omega arith
 
-pub totalled_pixel : {s : List ℕ} {from to place x : ℕ} {o : Own} → TotalAsks s from to place o → x + 1 < to → PixelAsks s x
+pub totalled_pixel : {s : List ℕ} {from to x : ℕ} → TotalAsks s from to → x < to - 1 → PixelAsks s x
 totalled_pixel a l = record { whole = omega (arith, a.whole); small = omega (arith, a.small) }
 
 module _ {s : List ℕ} {from to place x : ℕ} {total₀ total : Quad} (v : Totalled s from to place total₀ total x) where
@@ -56,12 +55,12 @@ module _ {s : List ℕ} {from to place x : ℕ} {total₀ total : Quad} (v : Tot
       join : (c u q : ℕ) {w t p t' : ℕ} → w ≡ u + q → t ≡ wrap_add c u → p ≡ q → t' ≡ wrap_add t p → t' ≡ wrap_add c w
       join c u q a b d f = omega arith
 
-  pub totalled_more : {pixel total' : Quad} → x + 1 < to → Four (λ k. at pixel k ≡ toned_at s place k x) → Four (λ k. at total' k ≡ wrap_add (at total k) (at pixel k))
+  pub totalled_more : {pixel total' : Quad} → x < to - 1 → Four (λ k. at pixel k ≡ toned_at s place k x) → Four (λ k. at total' k ≡ wrap_add (at total k) (at pixel k))
       → Totalled s from to place total₀ total' (x + 1)
   totalled_more {pixel} {total'} l p e =
-      record { past = omega (arith, v.past); so_far = l; totals = three (λ k. lane_more k (at total k) (at pixel k) (at total' k)) v.totals p e }
+      record { past = omega (arith, v.past); so_far = omega arith; totals = three (λ k. lane_more k (at total k) (at pixel k) (at total' k)) v.totals p e }
 
-  pub totalled_done : (carry last : Quad) → to ≤ x + 1 → Four (λ k. at total₀ k ≡ wrap_add (at carry k) (at last k))
+  pub totalled_done : (carry last : Quad) → to - 1 ≤ x → Four (λ k. at total₀ k ≡ wrap_add (at carry k) (at last k))
       → Four (λ k. at total k ≡ wrap_add (at carry k) (at last k + sum (toned_at s place k) from (to - 1 - from)))
   totalled_done carry last l e =
       let end : x ≡ to - 1 = omega (arith, v.so_far) in

@@ -1,9 +1,9 @@
 -- The columns of a row made one after another, bytes in their order and stored as lanes: `Standing` is the invariant of any loop over them. Assumes nothing.
-use Prim.Native.Nat.{ℕ, zero, suc, ◌+◌, ◌-◌, ◌*◌, ◌/◌, ◌%◌, ◌≤◌, ◌<◌}
+use Prim.Native.Nat.{ℕ, suc, ◌+◌, ◌-◌, ◌*◌, ◌≤◌, ◌<◌}
 use mathlib.Core.Path.{◌≡◌, refl, sym, ap, ◌∙◌, fun_ext}
 use mathlib.Core.List.{List}
 use native.Mathlib.Omega.{arith}
-use native.Mathlib.Nat.{mul-le-mul_left, div-add-mod, mod-lt}
+use native.Mathlib.Nat.{mul-le-mul_left}
 use native.Mathlib.Numerals.{add-one}
 use lib.ListN.{length}
 use Rattle.arithmetic.specs.FixedPoint.{frac}
@@ -12,7 +12,6 @@ use Rattle.arithmetic.specs.Table.{tabulate}
 use Rattle.arithmetic.specs.Word.{wrap_add}
 use Rattle.pixels.specs.Sizes.{pixel_lanes}
 use Rattle.pixels_layout.specs.declared.Places.{Places}
-use Rattle.rows.specs.declared.Own.{Own}
 use Rattle.rows.specs.declared.Quad.{Quad}
 use Rattle.rows.specs.Column as column
 use Rattle.rows.specs.Column.{Finished, value}
@@ -20,13 +19,13 @@ use Rattle.rows.specs.Lanes.{row_value}
 use Rattle.rows.specs.Tones.{toned_at}
 use Rattle.rows.specs.WorkRows.{written}
 use Rattle.rows.specs.Inner.Import.{at, Four, stored, lane_bytes, PixelAsks, Within, written_row, RowAsks}
-use Rattle.rows.specs.Inner.NextColumn.{NextAsks, NextIs}
+use Rattle.rows.specs.Inner.NextColumn.{StandsIn, NextIs}
 use Rattle.rows.proofs.Columns.{made_next}
 use Rattle.rows.proofs.Lanes.{each, both, four_at, row_values, written_length, put_four}
 use Rattle.rows.proofs.NextColumn.{LaneMade, lane_made, column_inside}
 use Rattle.rows.proofs.Tones.{toned_at_byte, toned_colour, toned_alpha}
 use Rattle.rows_pixels.proofs.Bytes.{total_pixels}
-use Rattle.rows_pixels.specs.Inner.{Owned, Apart, in_lanes, TotalAsks, EndAsks, end_value, end_carry}
+use Rattle.rows_pixels.specs.Inner.{Apart, in_lanes, TotalAsks, EndAsks, end_value, end_carry}
 
 -- ---- the bytes of a pixel at the places of its lanes are the lanes
 module _ (s : List ℕ) (bytes : Rattle.rows.specs.Inner.Import.Bytes s) (p : Places) (apart : Apart p) where
@@ -80,16 +79,13 @@ standing_first a z =
 
 module _ {s half₀ half : List ℕ} {n m : ℕ} {p : Places} {carry : Quad} {x over j : ℕ} (a : RowAsks s half₀ n m p) (shrinks : m ≤ n)
     (v : Standing s half₀ n m p half carry x over j) where
-  pub standing_next : NextAsks n m (n / m) (n % m) x over
-  standing_next =
-      record {
-        parts = omega (arith, div-add-mod n m);
-        rest_small = mod-lt n a.m_pos;
-        over_small = v.over_small;
-        shrinks = shrinks;
-        n_small = a.n_small;
-        to_small = v.x_small;
-      }
+  -- the next column, by what its call says of the sharing's own numbers
+  pub standing_next : {n' m' f x' over' : ℕ} → n' ≡ n → m' ≡ m → (StandsIn n' m' x over → NextIs n' m' x over f x' over') → (f ≡ x) × NextIs n m x over x x' over'
+  standing_next {n'} {m'} {f} {x'} {over'} e g next =
+      let stands : StandsIn n m x over = record { over_small = v.over_small; shrinks = shrinks; n_small = a.n_small; to_small = v.x_small } in
+      let w : NextIs n m x over f x' over' = (rw (e, g) at next) stands in
+      let more : x < x' = rw w.goes_on at w.more in
+      (w.goes_on, record { goes_on = refl; made = w.made; over_small = w.over_small; more = more })
 
   half_length : length half ≡ length half₀
   half_length =
@@ -104,15 +100,8 @@ module _ {s half₀ half : List ℕ} {n m : ℕ} {p : Places} {carry : Quad} {x 
     pub inside : x' ≤ n
     inside = column_inside n m j x' over' below w.over_small next_made
 
-    pub standing_asks : {o : Own} → Owned p.a o → TotalAsks s x x' p.a o
-    standing_asks owned =
-        record {
-          some = w.more;
-          whole = rw a.whole (mul-le-mul_left pixel_lanes inside);
-          small = omega (arith, inside, a.n_small);
-          place_in = a.places.a_in;
-          owned = owned;
-        }
+    pub standing_asks : TotalAsks s x x'
+    standing_asks = record { some = w.more; whole = rw a.whole (mul-le-mul_left pixel_lanes inside); small = omega (arith, inside, a.n_small) }
 
     pub standing_last : PixelAsks s (x' - 1)
     standing_last =

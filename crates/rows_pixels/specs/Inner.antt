@@ -5,27 +5,16 @@ use Rattle.arithmetic.specs.FixedPoint.{mult}
 use Rattle.arithmetic.specs.Word.{wrap_sub, wrap_mul}
 use Rattle.pixels.specs.Sizes.{pixel_lanes, max_side}
 use Rattle.pixels_layout.specs.declared.Places.{Places}
-use Rattle.pixels_layout.specs.declared.PixelLayout.{PixelLayout}
-use Rattle.pixels_layout.specs.Layout.{places_of}
-use Rattle.rows.specs.declared.Own.{Own}
 use Rattle.rows.specs.declared.Quad.{Quad}
 use Rattle.rows.specs.Column.{column_sum}
-use Rattle.rows.specs.Tones.{own_at, own_of, toned_at}
+use Rattle.rows.specs.Tones.{toned_at}
 use Rattle.rows.specs.Inner.Import.{at, Four, Bytes, Within}
 
--- ---- a pixel
-
--- what is or-ed to an alpha that stands at `place`
-abbrev pub Owned : ℕ → Own → Type 0
-Owned place o = Four (λ k. own_of o k ≡ own_at place k)
-
 -- the pixels of a column, from `from` up to `to`
-pub record TotalAsks (s : List ℕ) (from to place : ℕ) (o : Own) : Type 0 where
+pub record TotalAsks (s : List ℕ) (from to : ℕ) : Type 0 where
   pub some : from < to
   pub whole : pixel_lanes * to ≤ length s
   pub small : to ≤ max_side
-  pub place_in : place < pixel_lanes
-  pub owned : Owned place o
 
 -- ---- a column
 
@@ -83,7 +72,6 @@ pub record FillAsks (s : List ℕ) (n m j : ℕ) : Type 0 where
   pub whole : length s ≡ pixel_lanes * n
   pub bytes : Bytes s
 
-pub record BlockAsks (layout : PixelLayout) (n m : ℕ) (p : Places) : Type 0 where
+pub record BlockAsks (n m : ℕ) : Type 0 where
   pub shrinks : m ≤ n
   pub few : n < 512 * m
-  pub places : p ≡ places_of layout

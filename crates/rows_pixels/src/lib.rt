@@ -2,101 +2,65 @@
 // once and in their order; a column's end puts them into lanes. Work values wrap.
 #![tactic(auto)]
 
-ghost use Rattle.std.specs.Prelude.{◌≡◌, ◌+◌, ◌-◌, ◌*◌, ◌%◌, ◌≤◌, ◌<◌, length, get_or};
+ghost use Rattle.std.specs.Prelude.{◌≡◌, ◌+◌, ◌-◌, ◌*◌, ◌/◌, ◌%◌, ◌≤◌, ◌<◌, length, get_or};
 ghost use Rattle.arithmetic.specs.Sum.{sum};
 ghost use Rattle.arithmetic.specs.Word.{wrap_add};
-ghost use Rattle.pixels.specs.Refusals.{checked_number};
+ghost use Rattle.pixels.specs.Refusals.{answer_number};
 ghost use Rattle.pixels.specs.Sizes.{max_side, pixel_lanes};
 ghost use Rattle.pixels_layout.specs.Layout.{places_of};
 ghost use Rattle.rows_tests.specs.Tests.{import_number};
-ghost use Rattle.rows.specs.Tones.{toned, toned_at};
-ghost use Rattle.rows.specs.Inner.Import.{at, Four, stored, byte_at, PixelAsks, Within, written_row, RowAsks};
-ghost use Rattle.rows.specs.Inner.NextColumn.{NextAsks, NextIs};
+ghost use Rattle.rows.specs.Tones.{toned_at};
+ghost use Rattle.rows.specs.Inner.Import.{at, Four, stored, PixelAsks, Within, written_row, RowAsks};
 ghost use Rattle.rows.specs.Import.{import_half};
-ghost use Rattle.rows_pixels.specs.Inner.{Owned, Apart, InLanes, in_lanes, TotalAsks, EndAsks, end_value, end_carry, FillAsks, PairAsks, Filled, Ready, BlockAsks};
+ghost use Rattle.rows_pixels.specs.Inner.{InLanes, in_lanes, TotalAsks, EndAsks, end_value, end_carry, FillAsks, PairAsks, Filled, Ready, BlockAsks};
 
 use arithmetic::frac;
-use pixels::{Checked, PIXEL_LANES};
+use pixels::{PIXEL_LANES, Refusal};
 use pixels_layout::{PixelLayout, Places};
-use rows::{Own, Quad, add4, finish, own_at, times4, tone, zero4};
+use rows::{Alpha, Column, Quad, Sharing, add4, finish, times4, tone, zero4};
 use rows_growing::widen_row;
 use rows_summing::sum_block;
 use rows_tests::check_import;
 
 // ---- a pixel
 
-// Byte k of pixel x, matted by an alpha.
-fn toned_byte(row: &[u8], x: usize, k: usize, alpha: u8, own: u16) -> u32
-    requires pixel_asks { PixelAsks row.now x }
-    requires k_lt_pixel_lanes { k < pixel_lanes }
-    ensures { result ≡ toned (byte_at row.now k x) alpha own }
+// The four bytes of pixel x, in their order.
+// Kept: that a pixel is in a row is said of both, and no struct holds a row: PixelAsks, and RowAsks below, stay in the contracts.
+fn one(row: &[u8], x: usize, alpha: Alpha) -> Quad
+    requires { PixelAsks row.now x }
+    ensures { Four (λ k. at result k ≡ toned_at row.now alpha.place k x) }
 {
-    tone(row[PIXEL_LANES * x + k], alpha, own)
-}
-
-// The four bytes of pixel x, in their order; its alpha stands at `place`.
-fn one(row: &[u8], x: usize, place: usize, o: Own) -> Quad
-    requires pixel_asks { PixelAsks row.now x }
-    requires place_lt_pixel_lanes { place < pixel_lanes }
-    requires owned { Owned place o }
-    ensures { Four (λ k. at result k ≡ toned_at row.now place k x) }
-{
-    let alpha = row[PIXEL_LANES * x + place];
+    let i = PIXEL_LANES * x;
+    let o = alpha.own;
+    let by = row[i + alpha.place];
     Quad {
-        a: toned_byte(row, x, 0, alpha, o.a),
-        b: toned_byte(row, x, 1, alpha, o.b),
-        c: toned_byte(row, x, 2, alpha, o.c),
-        d: toned_byte(row, x, 3, alpha, o.d),
+        a: tone(row[i], by, o.a),
+        b: tone(row[i + 1], by, o.b),
+        c: tone(row[i + 2], by, o.c),
+        d: tone(row[i + 3], by, o.d),
     }
 }
 
 // A column's total: its carry, its last pixel, and the pixels from `from` on before that.
-fn total_of(
-    row: &[u8],
-    from: usize,
-    to: usize,
-    place: usize,
-    o: Own,
-    carry: Quad,
-    last: Quad,
-) -> Quad
-    requires { TotalAsks row.now from to place o }
-    ensures { Four (λ k. at result k ≡ wrap_add (at carry k) (at last k + sum (toned_at row.now place k) from (to - 1 - from))) }
+fn total_of(row: &[u8], from: usize, to: usize, alpha: Alpha, carry: Quad, last: Quad) -> Quad
+    requires { TotalAsks row.now from to }
+    ensures { Four (λ k. at result k ≡ wrap_add (at carry k) (at last k + sum (toned_at row.now alpha.place k) from (to - 1 - from))) }
 {
     let mut total = add4(carry, last);
-    let mut x = from;
-    while x + 1 < to {
-        total = add4(total, one(row, x, place, o));
-        x += 1;
+    for x in from..to - 1 {
+        total = add4(total, one(row, x, alpha));
     }
     total
 }
 
 // ---- a column
 
-// x pixels are used, and `over` parts out of m of the last of them are left over.
-#[derive(Clone, Copy)]
-struct Stand {
-    x: usize,
-    over: usize,
-}
-
-// One column on: n / m pixels, and one more where the parts left over do not reach.
-fn next_stand(n: usize, m: usize, each: usize, rest: usize, s: Stand) -> Stand
-    requires { NextAsks n m each rest s.x s.over }
-    ensures { NextIs n m s.x s.over s.x result.x result.over }
-{
-    if s.over < rest {
-        return Stand {
-            x: s.x + each + 1,
-            over: s.over + m - rest,
-        };
-    }
-    Stand {
-        x: s.x + each,
-        over: s.over - rest,
-    }
-}
+// What stands before the first column.
+const FIRST: Column = Column {
+    from: 0,
+    to: 0,
+    over: 0,
+};
 
 // From bytes' order to lanes B, G, R, A.
 fn in_lanes(bytes: Quad, p: Places) -> Quad
@@ -117,6 +81,7 @@ fn in_lanes(bytes: Quad, p: Places) -> Quad
 }
 
 // Stores the four values of column j.
+// Kept, as that of rows_growing: one for both would be public, and would test anew the bounds that are proved here.
 fn put4(half: &mut [u32], j: usize, v: Quad)
     requires { (pixel_lanes * j + pixel_lanes ≤ length half.old) × (j < max_side) }
     ensures { half.new ≡ stored half.old j v }
@@ -171,13 +136,13 @@ fn end_column(
 const BLOCK: usize = 32;
 
 // Sums the block that column j begins, if it begins one.
-fn refill(layout: PixelLayout, row: &[u8], n: usize, m: usize, j: usize, sums: &mut [u16; 256])
-    requires fill_asks { FillAsks row.now n m j }
-    requires ready { Ready row.now (places_of layout).a n m j sums.old }
-    ensures { Filled row.now (places_of layout).a n m (j - j % 32) sums.new }
+fn refill(layout: PixelLayout, row: &[u8], m: usize, j: usize, sums: &mut [u16; 256])
+    requires fill_asks { FillAsks row.now (length row.now / pixel_lanes) m j }
+    requires ready { Ready row.now (places_of layout).a (length row.now / pixel_lanes) m j sums.old }
+    ensures { Filled row.now (places_of layout).a (length row.now / pixel_lanes) m (j - j % 32) sums.new }
 {
     if j % BLOCK == 0 {
-        sum_block(layout, n, m, j, row, sums);
+        sum_block(layout, row.len() / PIXEL_LANES, m, j, row, sums);
     }
 }
 
@@ -207,88 +172,80 @@ fn both(sums: &[u16; 256], k: usize) -> Quad
 // ---- a row. The Rust: Rescaler::import_row_shrink; libwebp: WebPRescalerImportRowShrink_C. Its `sum` carries on here as `carry`.
 
 // Columns of one pixel or two, or of any number, pixel by pixel.
-fn shrink_pixels(row: &[u8], n: usize, m: usize, p: Places, half: &mut [u32])
-    requires row_asks { RowAsks row.now half.old n m p }
-    requires m_le_n { m ≤ n }
-    requires apart { Apart p }
-    ensures { half.new ≡ written_row p n m row.now half.old }
+fn shrink_pixels(layout: PixelLayout, row: &[u8], m: usize, half: &mut [u32])
+    requires row_asks { RowAsks row.now half.old (length row.now / pixel_lanes) m (places_of layout) }
+    requires m_le_n { m ≤ length row.now / pixel_lanes }
+    ensures { half.new ≡ written_row (places_of layout) (length row.now / pixel_lanes) m row.now half.old }
 {
     let scale = frac(1, m as u32);
-    let place = p.a;
-    let own = own_at(place);
-    let each = n / m;
-    let rest = n % m;
-    let mut s = Stand { x: 0, over: 0 };
+    let p = layout.places();
+    let alpha = Alpha::of(layout);
+    let columns = Sharing::new(row.len() / PIXEL_LANES, m);
+    let mut c = FIRST;
     let mut carry = zero4();
-    let mut j = 0usize;
-    while j < m {
-        let x = s.x;
-        s = next_stand(n, m, each, rest, s);
-        let last = one(row, s.x - 1, place, own);
-        let total = total_of(row, x, s.x, place, own, carry, last);
-        carry = end_column(half, j, m, scale, s.over, total, last, p);
-        j += 1;
+    for j in 0..m {
+        c = columns.next(c);
+        let last = one(row, c.to - 1, alpha);
+        let total = total_of(row, c.from, c.to, alpha, carry, last);
+        carry = end_column(half, j, m, scale, c.over, total, last, p);
     }
 }
 
 // Columns summed block by block.
-fn shrink_blocks(layout: PixelLayout, row: &[u8], n: usize, m: usize, p: Places, half: &mut [u32])
-    requires row_asks { RowAsks row.now half.old n m p }
-    requires block_asks { BlockAsks layout n m p }
-    ensures { half.new ≡ written_row p n m row.now half.old }
+fn shrink_blocks(layout: PixelLayout, row: &[u8], m: usize, half: &mut [u32])
+    requires row_asks { RowAsks row.now half.old (length row.now / pixel_lanes) m (places_of layout) }
+    requires block_asks { BlockAsks (length row.now / pixel_lanes) m }
+    ensures { half.new ≡ written_row (places_of layout) (length row.now / pixel_lanes) m row.now half.old }
 {
     let scale = frac(1, m as u32);
-    let place = p.a;
-    let own = own_at(place);
-    let each = n / m;
-    let rest = n % m;
+    let p = layout.places();
+    let alpha = Alpha::of(layout);
+    let columns = Sharing::new(row.len() / PIXEL_LANES, m);
     let mut sums = [0u16; 256];
-    let mut s = Stand { x: 0, over: 0 };
+    let mut c = FIRST;
     let mut carry = zero4();
-    let mut j = 0usize;
-    while j < m {
-        refill(layout, row, n, m, j, &mut sums);
-        s = next_stand(n, m, each, rest, s);
+    for j in 0..m {
+        refill(layout, row, m, j, &mut sums);
+        c = columns.next(c);
         let total = add4(carry, both(&sums, j % BLOCK));
-        let last = one(row, s.x - 1, place, own);
-        carry = end_column(half, j, m, scale, s.over, total, last, p);
-        j += 1;
+        let last = one(row, c.to - 1, alpha);
+        carry = end_column(half, j, m, scale, c.over, total, last, p);
     }
 }
 
 // The same where every column has as many pixels and shares none: nothing is carried.
-fn shrink_whole(layout: PixelLayout, row: &[u8], n: usize, m: usize, p: Places, half: &mut [u32])
-    requires row_asks { RowAsks row.now half.old n m p }
-    requires block_asks { BlockAsks layout n m p }
-    requires m_value { n % m ≡ 0 }
-    ensures { half.new ≡ written_row p n m row.now half.old }
+fn shrink_whole(layout: PixelLayout, row: &[u8], m: usize, half: &mut [u32])
+    requires row_asks { RowAsks row.now half.old (length row.now / pixel_lanes) m (places_of layout) }
+    requires block_asks { BlockAsks (length row.now / pixel_lanes) m }
+    requires even { length row.now / pixel_lanes % m ≡ 0 }
+    ensures { half.new ≡ written_row (places_of layout) (length row.now / pixel_lanes) m row.now half.old }
 {
+    let p = layout.places();
     let mut sums = [0u16; 256];
-    let mut j = 0usize;
-    while j < m {
-        refill(layout, row, n, m, j, &mut sums);
+    for j in 0..m {
+        refill(layout, row, m, j, &mut sums);
         let bytes = times4(both(&sums, j % BLOCK), m as u32);
         put4(half, j, in_lanes(bytes, p));
-        j += 1;
     }
 }
 
 // Columns of one pixel or two, and of 512 or more, pixel by pixel; others block by block.
-fn shrink_row(layout: PixelLayout, row: &[u8], n: usize, m: usize, p: Places, half: &mut [u32])
-    requires row_asks { RowAsks row.now half.old n m p }
-    requires m_le_n { (m ≤ n) × (p ≡ places_of layout) }
-    ensures { half.new ≡ written_row p n m row.now half.old }
+fn shrink_row(layout: PixelLayout, row: &[u8], m: usize, half: &mut [u32])
+    requires row_asks { RowAsks row.now half.old (length row.now / pixel_lanes) m (places_of layout) }
+    requires m_le_n { m ≤ length row.now / pixel_lanes }
+    ensures { half.new ≡ written_row (places_of layout) (length row.now / pixel_lanes) m row.now half.old }
 {
+    let n = row.len() / PIXEL_LANES;
     let each = n / m;
     if each == 1 || each >= 512 {
-        shrink_pixels(row, n, m, p, half);
+        shrink_pixels(layout, row, m, half);
         return;
     }
     if n % m == 0 {
-        shrink_whole(layout, row, n, m, p, half);
+        shrink_whole(layout, row, m, half);
         return;
     }
-    shrink_blocks(layout, row, n, m, p, half);
+    shrink_blocks(layout, row, m, half);
 }
 
 // One row of the crop, matted as it is read, into a half. A row as wide as the target goes the same way: matting changes it.
@@ -300,32 +257,20 @@ pub fn import_row(
     target_width: u32,
     row: &[u8],
     half: &mut [u32],
-) -> Checked
-    ensures number { checked_number result ≡ import_number pixel_lanes crop_width target_width (length row.now) (length half.old) }
+) -> Result<(), Refusal>
+    ensures number { answer_number result ≡ import_number pixel_lanes crop_width target_width (length row.now) (length half.old) }
     ensures half { half.new ≡ import_half layout crop_width target_width row.now half.old }
 {
     if crop_width < target_width {
         return widen_row(layout, crop_width, target_width, row, half);
     }
-    let checked = check_import(
+    check_import(
         PIXEL_LANES as u32,
         crop_width,
         target_width,
         row.len(),
         half.len(),
-    );
-    match checked {
-        Checked::Refused(_) => {}
-        Checked::Fit => {
-            shrink_row(
-                layout,
-                row,
-                crop_width as usize,
-                target_width as usize,
-                layout.places(),
-                half,
-            );
-        }
-    }
-    checked
+    )?;
+    shrink_row(layout, row, target_width as usize, half);
+    Ok(())
 }

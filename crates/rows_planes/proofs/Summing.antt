@@ -1,5 +1,5 @@
 -- Pixels of one lane summed, one or four a turn: the sum so far is that of the pixels passed, and p is the place of the next. Assumes nothing.
-use Rattle.std.proofs.Common.{◌≡◌, ℕ, zero, suc, ◌+◌, ◌*◌, ◌<◌, ◌≤◌, List, length, get_or, sym, ap, ◌∙◌, mul-le-mul, mul-le-mul_left, add-one, arith}
+use Rattle.std.proofs.Common.{◌≡◌, ℕ, ◌+◌, ◌*◌, ◌<◌, ◌≤◌, List, length, get_or, sym, ap, ◌∙◌, mul-le-mul, mul-le-mul_left, add-one, arith}
 use Rattle.arithmetic.specs.Sum.{sum}
 use Rattle.arithmetic.proofs.Sums.{sum_zero, sum_suc}
 use Rattle.rows_widening.specs.Inner.{byte_of}

@@ -25,11 +25,13 @@ column_value lanes s m from to over carries k =
 unfoldable pub column_carry : ℕ → List ℕ → ℕ → ℕ → ℕ → ℕ → ℕ
 column_carry lanes s scale to over k = mult (wrap_mul (byte_of lanes s k (to - 1)) over) scale
 
-pub record PutAsks (s : List ℕ) (lanes m from to over : ℕ) (carries half : List ℕ) (at : ℕ) : Type 0 where
+pub record PutAsks (s : List ℕ) (lanes m each from to over : ℕ) (carries half : List ℕ) (at : ℕ) : Type 0 where
   pub lane_count : LaneCount lanes
   pub m_small : m ≤ max_side
   pub over_small : over < m
   pub more : from < to
+  pub fewest : from + each ≤ to
+  pub most : to ≤ from + each + 1
   pub small : to ≤ max_side
   pub whole : lanes * to ≤ length s
   pub carry_room : lanes ≤ length carries

@@ -1,15 +1,16 @@
 -- A row restored and put in a layout's order, pixel by pixel: every pixel keeps its alpha and an opaque one its colours, so that the flag is that of the alphas
 -- before; the byte order is the table's. Assumes nothing.
-use Prim.Native.Nat.{ℕ, ◌+◌, ◌*◌, ◌/◌, ◌%◌, ◌^◌, ◌≤◌, ◌<◌}
+use Prim.Native.Nat.{ℕ, zero, suc, ◌+◌, ◌*◌, ◌/◌, ◌%◌, ◌^◌, ◌≤◌, ◌<◌}
 use mathlib.Core.Path.{◌≡◌, refl, sym, ap, ap₂, ◌∙◌}
 use mathlib.Core.Bool.{true, false}
-use mathlib.Core.List.{List}
+use mathlib.Core.List.{List, [], ◌∷◌}
 use native.Mathlib.Omega.{arith}
 use native.Mathlib.Nat.{add-zero, le_of_suc-le-suc}
+use Rattle.std.specs.Int.{w32, from_le_bytes, to_le_bytes, swap_bytes}
 use lib.ListN.{length, get_or, set}
 use Rattle.arithmetic.specs.Matte.{lane_of, pixel_of, restore_factor, factor_of, scale_colour, cut_colour, mult_argb}
 use Rattle.arithmetic.specs.Table.{tabulate}
-use Rattle.arithmetic.proofs.Tables.{get_d_tabulate, tabulate_cong, tabulate_is}
+use Rattle.arithmetic.proofs.Tables.{get_d_tabulate, tabulate_cong}
 use Rattle.arithmetic.proofs.Mattes.{lane_byte_lem, lane_high, pixel_lane, restored_alpha, restored_colour, restored_opaque}
 use Rattle.pixels_layout.specs.declared.PixelLayout.{PixelLayout}
 use Rattle.pixels_layout.specs.declared.PixelLayout.TheVariants.{Rgba8, Argb8, Bgra8}
@@ -20,8 +21,8 @@ use Rattle.pixels_alpha.specs.Alpha.{some_clear, has_alpha}
 use Rattle.pixels_layout.proofs.Tabled.{each_lane, place_lt, place_twice}
 use Rattle.pixels_layout.proofs.Packing.{packed_byte_lem}
 use Rattle.pixels_alpha.proofs.Flags.{clear_no, clear_cong}
-use Rattle.rows_restoring.specs.Inner.Restoring.{alpha_in, restored_at, put_colours, word_at, put_lanes, ordered_byte, ordered_word}
-use Rattle.arithmetic.proofs.Stores.{Stored, none_stored, store, store_four, keep, place, ahead}
+use Rattle.rows_restoring.specs.Inner.Restoring.{pixels_in, pixels_made, alpha_in, restored_at, put_colours, restored_bytes, word_at, put_lanes, ordered_byte, ordered_bytes, ordered_word}
+use Rattle.arithmetic.proofs.Stores.{Stored, none_stored, store, store_four, keep, place, ahead, all_stored}
 
 -- ---- the scaler's own order
 own_place : (k : ℕ) → k < pixel_lanes → place_of Bgra8 k ≡ k
@@ -71,12 +72,22 @@ module _ (s : List ℕ) (small : (y : ℕ) → get_or s y 0 < 256) (j : ℕ) whe
   opaque_kept : alpha_in s j ≡ 255 → (k : ℕ) → k < pixel_lanes → lanes k ≡ restored_place Bgra8 (λ x. get_or s x 0) (pixel_lanes * j + k)
   opaque_kept e k l = sym (place_is k l ∙ restored_opaque lanes bytes e k l)
 
+-- ---- a row whose pixels are made already
+all_kept : (f : ℕ → ℕ) (s : List ℕ) (w k : ℕ) → k ≤ w → w ≤ length s → ((x : ℕ) → x < w → get_or s x 0 ≡ f x) → Stored f s s w k
+all_kept f s w zero h room is = none_stored f room
+all_kept f s w (suc k) h room is = place (keep (all_kept f s w k (omega arith) room is) (omega arith) (is k (omega arith))) (suc k) (omega arith)
+
+made_already : (f : ℕ → ℕ) (s : List ℕ) → ((x : ℕ) → x < row_bytes pixel_lanes (pixels_in s) → get_or s x 0 ≡ f x) → s ≡ pixels_made f s
+made_already f s is =
+    let w = row_bytes pixel_lanes (pixels_in s) in
+    all_stored (all_kept f s w w (omega arith) (omega arith) is) (omega arith)
+
 -- ---- the loop that restores: j pixels of m are restored
 pub record Restoring (s₀ s : List ℕ) (m j : ℕ) : Type 0 where
   pub bytes : Stored (restored_place Bgra8 (λ x. get_or s₀ x 0)) s₀ s (row_bytes pixel_lanes m) (pixel_lanes * j)
 
-pub restore_first : (s : List ℕ) (m : ℕ) → length s ≡ row_bytes pixel_lanes m → Restoring s s m 0
-restore_first s m e = record { bytes = none_stored (restored_place Bgra8 (λ x. get_or s x 0)) (omega arith) }
+pub restore_first : (s : List ℕ) → Restoring s s (pixels_in s) 0
+restore_first s = record { bytes = none_stored (restored_place Bgra8 (λ x. get_or s x 0)) (omega arith) }
 
 module _ {s₀ s : List ℕ} {m j : ℕ} (small : (y : ℕ) → get_or s₀ y 0 < 256) (i : Restoring s₀ s m j) (more : j < m) where
   ahead_is : (k : ℕ) → get_or s (pixel_lanes * j + k) 0 ≡ get_or s₀ (pixel_lanes * j + k) 0
@@ -106,17 +117,15 @@ module _ {s₀ s : List ℕ} {m j : ℕ} (small : (y : ℕ) → get_or s₀ y 0 
       record { bytes = place (keep three (omega arith) (kept alpha_lane (omega arith))) (pixel_lanes * (j + 1)) (omega arith) }
 
 -- ---- a row of opaque pixels is restored already
-pub opaque_row : (s : List ℕ) (m : ℕ) → ((y : ℕ) → get_or s y 0 < 256) → length s ≡ row_bytes pixel_lanes m → some_clear (alpha_in s) m ≡ false
-    → s ≡ tabulate (restored_place Bgra8 (λ x. get_or s x 0)) (row_bytes pixel_lanes m)
-opaque_row s m small e none =
-    tabulate_is (restored_place Bgra8 (λ x. get_or s x 0)) s
+pub opaque_row : (s : List ℕ) → ((y : ℕ) → get_or s y 0 < 256) → some_clear (alpha_in s) (pixels_in s) ≡ false → s ≡ restored_bytes s
+opaque_row s small none =
+    made_already (restored_place Bgra8 (λ x. get_or s x 0)) s
     (λ x h.
     let whole : x ≡ pixel_lanes * (x / pixel_lanes) + x % pixel_lanes = omega arith in
-    let opaque = clear_no (alpha_in s) m none (x / pixel_lanes) (omega arith) in
+    let opaque = clear_no (alpha_in s) (pixels_in s) none (x / pixel_lanes) (omega arith) in
     ap (λ (t : ℕ). get_or s t 0) whole
     ∙ opaque_kept s small (x / pixel_lanes) opaque (x % pixel_lanes) (omega arith)
     ∙ ap (restored_place Bgra8 (λ t. get_or s t 0)) (sym whole))
-    ∙ ap (tabulate (restored_place Bgra8 (λ x. get_or s x 0))) e
 
 -- ---- the byte order
 pub ordered_byte_lem : (l : PixelLayout) (s : List ℕ) (j k : ℕ) → k < pixel_lanes → ordered_byte l s (pixel_lanes * j + k) ≡ get_or s (pixel_lanes * j + place_of l k) 0
@@ -130,8 +139,8 @@ ordered_byte_lem l s j k h =
 pub record Ordered (l : PixelLayout) (s₀ s : List ℕ) (m j : ℕ) : Type 0 where
   pub bytes : Stored (ordered_byte l s₀) s₀ s (row_bytes pixel_lanes m) (pixel_lanes * j)
 
-pub order_first : (l : PixelLayout) (s : List ℕ) (m : ℕ) → length s ≡ row_bytes pixel_lanes m → Ordered l s s m 0
-order_first l s m e = record { bytes = none_stored (ordered_byte l s) (omega arith) }
+pub order_first : (l : PixelLayout) (s : List ℕ) → Ordered l s s (pixels_in s) 0
+order_first l s = record { bytes = none_stored (ordered_byte l s) (omega arith) }
 
 -- a pixel read as a word, its lanes put in order and stored
 module _ (l : PixelLayout) {s₀ s : List ℕ} {m j : ℕ} (small : (y : ℕ) → get_or s₀ y 0 < 256) (i : Ordered l s₀ s m j) (more : j < m) where
@@ -163,9 +172,9 @@ module _ (l : PixelLayout) {s₀ s : List ℕ} {m j : ℕ} (small : (y : ℕ) �
       record { bytes = rw e (place four (pixel_lanes * (j + 1)) (omega arith)) }
 
 -- the words that the code makes
-pub word_is : (s : List ℕ) (x : ℕ) {w : ℕ} → w ≡ get_or s x 0 + 2 ^ 8 * get_or s (x + 1) 0 + 2 ^ 16 * get_or s (x + 2) 0 + 2 ^ 24 * get_or s (x + 3) 0 → w ≡ word_at s x
+pub word_is : (s : List ℕ) (x : ℕ) {w : ℕ} → w ≡ from_le_bytes w32 (get_or s x 0 ∷ get_or s (x + 1) 0 ∷ get_or s (x + 2) 0 ∷ get_or s (x + 3) 0 ∷ []) → w ≡ word_at s x
 unfolding word_at pixel_of
-word_is s x e = rw (add-zero x) e
+word_is s x e = rw (add-zero x) (omega (arith, e))
 
 -- each lane as the code takes it from its pixel
 blue_lane : (argb : ℕ) → argb % 256 ≡ lane_of argb 0
@@ -180,31 +189,29 @@ red_lane : (argb : ℕ) → argb / 65536 % 256 ≡ lane_of argb 2
 unfolding lane_of
 red_lane argb = refl
 
-pub lanes_put : (s : List ℕ) (x argb : ℕ) → argb < 2 ^ 32
-    → set (set (set (set s x (argb % 256)) (x + 1) (argb / 256 % 256)) (x + 2) (argb / 65536 % 256)) (x + 3) (argb / 16777216) ≡ put_lanes s x (lane_of argb)
-unfolding put_lanes
-lanes_put s x argb h = rw (blue_lane argb, green_lane argb, red_lane argb, ← lane_high argb h)
+pub lanes_put : (s : List ℕ) (x argb : ℕ) {bytes : List ℕ} → bytes ≡ to_le_bytes w32 argb
+    → set (set (set (set s x (get_or bytes 0 0)) (x + 1) (get_or bytes 1 0)) (x + 2) (get_or bytes 2 0)) (x + 3) (get_or bytes 3 0) ≡ put_lanes s x (lane_of argb)
+unfolding put_lanes lane_of
+lanes_put s x argb e = rw (e, blue_lane argb)
 
 pub swapped_word : (argb : ℕ) → argb < 2 ^ 32
     → argb / 65536 % 256 + 256 * (argb / 256 % 256) + 65536 * (argb % 256) + 16777216 * (argb / 16777216) ≡ ordered_word Rgba8 argb
 unfolding ordered_word pixel_of
 swapped_word argb h = rw (blue_lane argb, green_lane argb, red_lane argb, ← lane_high argb h)
 
-pub reversed_word : (argb : ℕ) → argb < 2 ^ 32
-    → argb / 16777216 + 256 * (argb / 65536 % 256) + 65536 * (argb / 256 % 256) + 16777216 * (argb % 256) ≡ ordered_word Argb8 argb
-unfolding ordered_word pixel_of
-reversed_word argb h = rw (blue_lane argb, green_lane argb, red_lane argb, ← lane_high argb h)
+pub reversed_word : (argb : ℕ) {v : ℕ} → v ≡ swap_bytes w32 argb → v ≡ ordered_word Argb8 argb
+unfolding ordered_word pixel_of lane_of
+reversed_word argb e = omega (arith, e)
 
 -- the scaler's own order
-pub ordered_same : (s : List ℕ) (m : ℕ) → length s ≡ row_bytes pixel_lanes m → s ≡ tabulate (ordered_byte Bgra8 s) (row_bytes pixel_lanes m)
+pub ordered_same : (s : List ℕ) → s ≡ ordered_bytes Bgra8 s
 unfolding ordered_byte
-ordered_same s m e =
-    tabulate_is (ordered_byte Bgra8 s) s
+ordered_same s =
+    made_already (ordered_byte Bgra8 s) s
     (λ x h.
     let whole : pixel_lanes * (x / pixel_lanes) + x % pixel_lanes ≡ x = omega arith in
     let own : place_of Bgra8 (x % pixel_lanes) ≡ x % pixel_lanes = own_place (x % pixel_lanes) (omega arith) in
     ap (λ (t : ℕ). get_or s t 0) (sym whole) ∙ ap (λ (t : ℕ). get_or s (pixel_lanes * (x / pixel_lanes) + t) 0) (sym own))
-    ∙ ap (tabulate (ordered_byte Bgra8 s)) e
 
 -- ---- restored in the scaler's order, then put in a layout's, is restored and packed
 pub restored_ordered : (l : PixelLayout) (v : ℕ → ℕ) (m : ℕ) → tabulate (ordered_byte l (tabulate (restored_place Bgra8 v) (row_bytes pixel_lanes m))) (row_bytes pixel_lanes m) ≡ tabulate (restored_place l v) (row_bytes pixel_lanes m)

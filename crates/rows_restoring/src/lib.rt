@@ -2,81 +2,73 @@
 // libwebp's WebPMultARGBRow_C). In place, in passes: is the row opaque; if not, restore; then the byte order.
 #![tactic(auto)]
 
-ghost use Rattle.std.specs.Prelude.{◌≡◌, ◌+◌, ◌*◌, ◌^◌, ◌≤◌, ◌<◌, min, length, get_or, set};
+ghost use Rattle.std.specs.Prelude.{◌≡◌, ℕ, ◌+◌, ◌*◌, ◌^◌, ◌≤◌, ◌<◌, min, length, get_or, set};
 ghost use Rattle.arithmetic.specs.Matte.{lane_of, restore_factor, cut_colour, restore_factors};
 ghost use Rattle.arithmetic.specs.Table.{tabulate};
-ghost use Rattle.pixels.specs.Refusals.{checked_number, flagged_number, flagged_flag};
+ghost use Rattle.pixels.specs.Refusals.{answer_number, flagged_flag};
 ghost use Rattle.pixels.specs.Sizes.{pixel_lanes, row_bytes};
 ghost use Rattle.pixels_layout.specs.Lanes.{restored_place};
 ghost use Rattle.pixels_alpha.specs.Alpha.{some_clear};
 ghost use Rattle.rows_restoring.specs.Restoring.{restore_number, restored_out, row_flag};
-ghost use Rattle.rows_restoring.specs.Inner.Restoring.{alpha_in, restored_at, put_colours, word_at, put_lanes, ordered_byte, ordered_word};
+ghost use Rattle.rows_restoring.specs.Inner.Restoring.{pixels_in, alpha_in, restored_at, put_colours, restored_bytes, word_at, put_lanes, ordered_bytes, ordered_word};
 
 use arithmetic::restore_factors;
-use pixels::{Checked, Flagged, PIXEL_LANES, Refusal, bad_side};
+use pixels::{PIXEL_LANES, Refusal, bad_side};
 use pixels_layout::PixelLayout;
 
-// The pixel AARRGGBB of its lanes.
-fn joined(b: u8, g: u8, r: u8, a: u8) -> u32
-    ensures { result ≡ b + 2 ^ 8 * g + 2 ^ 16 * r + 2 ^ 24 * a }
-{
-    b as u32 + 256 * g as u32 + 65536 * r as u32 + 16777216 * a as u32
-}
-
-// The pixel whose lanes stand from `at` on.
+// The pixel AARRGGBB whose lanes stand from `at` on.
 fn word(out: &[u8], at: usize) -> u32
     requires { at + pixel_lanes ≤ length out.now }
     ensures { result ≡ word_at out.now at }
 {
-    joined(out[at], out[at + 1], out[at + 2], out[at + 3])
+    u32::from_le_bytes([out[at], out[at + 1], out[at + 2], out[at + 3]])
 }
 
 // Stores the lanes of a pixel from `at` on.
+// Kept: four stores. copy_from_slice tests whether the two places overlap, and of the loop that exchanges blue and red the compiler then makes no vectors.
 fn put_word(out: &mut [u8], at: usize, argb: u32)
     requires { at + pixel_lanes ≤ length out.old }
     ensures { out.new ≡ put_lanes out.old at (lane_of argb) }
 {
-    out[at] = (argb % 256) as u8;
-    out[at + 1] = (argb / 256 % 256) as u8;
-    out[at + 2] = (argb / 65536 % 256) as u8;
-    out[at + 3] = (argb / 16777216) as u8;
+    let lanes = argb.to_le_bytes();
+    out[at] = lanes[0];
+    out[at + 1] = lanes[1];
+    out[at + 2] = lanes[2];
+    out[at + 3] = lanes[3];
 }
 
-// Whether some of m pixels isn't opaque: the high byte of all pixels and-ed is 255 exactly if every alpha is. The compiler ands four pixels at once.
-fn some_clear(out: &[u8], m: usize) -> bool
-    requires { length out.now ≡ row_bytes pixel_lanes m }
-    ensures { result ≡ some_clear (alpha_in out.now) m }
+// Whether some pixel isn't opaque: the high byte of all pixels and-ed is 255 exactly if every alpha is. The compiler ands four pixels at once.
+fn some_clear(out: &[u8]) -> bool
+    ensures { result ≡ some_clear (alpha_in out.now) (pixels_in out.now) }
 {
-    let mut all = 4294967295u32;
-    let mut j = 0usize;
-    while j < m {
-        all = all & word(out, PIXEL_LANES * j);
-        j += 1;
+    let mut all = u32::MAX;
+    for j in 0..out.len() / PIXEL_LANES {
+        all &= word(out, PIXEL_LANES * j);
     }
     all / 16777216 != 255
 }
 
 // The factors to restore of every alpha: with those of 0 and 255 among them neither needs a case of its own.
-fn every_factor(factors: &[u32; 254]) -> [u32; 256]
-    requires { factors.now ≡ restore_factors }
-    ensures { result ≡ tabulate restore_factor 256 }
-{
-    let mut every = [0u32; 256];
-    let mut i = 0usize;
-    while i < 254 {
-        every[i + 1] = factors[i];
-        i += 1;
-    }
-    every[255] = 16777216;
-    every
+#[derive(Drop)]
+struct Factors {
+    every: [u32; 256],
+    ghost whole: { every ≡ tabulate restore_factor 256 },
 }
 
-// The factor of an alpha, of lent ones.
-fn factor_of(alpha: u8, factors: &[u32; 256]) -> u32
-    requires { factors.now ≡ tabulate restore_factor 256 }
-    ensures { result ≡ restore_factor alpha }
-{
-    factors[alpha as usize]
+impl Factors {
+    // The lent factors, between those of alpha 0 and 255.
+    fn laid_out() -> Factors {
+        let mut every = [0u32; 256];
+        every[1..255].copy_from_slice(&restore_factors());
+        every[255] = 16777216;
+        Factors { every }
+    }
+
+    fn of(&self, alpha: u8) -> u32
+        ensures { result ≡ restore_factor alpha }
+    {
+        self.every[alpha as usize]
+    }
 }
 
 // One colour restored by the factor of its alpha, and cut at 255.
@@ -84,18 +76,19 @@ fn restored(colour: u8, factor: u32) -> u8
     ensures { result ≡ cut_colour colour factor }
 {
     let scaled = (colour as u64 * factor as u64 + 8388608) / 16777216;
+    // Kept: of min the compiler makes a jump here, and a translucent picture takes about a tenth more time.
     if scaled < 255 {
         return scaled as u8;
     }
     255
 }
 
-// Restores the colours of the pixel at `at` by lent factors; its alpha stays.
-fn restore_pixel(out: &mut [u8], at: usize, factors: &[u32; 256])
-    requires { (at + pixel_lanes ≤ length out.old) × (factors.now ≡ tabulate restore_factor 256) }
+// Restores the colours of the pixel at `at`; its alpha stays.
+fn restore_pixel(out: &mut [u8], at: usize, factors: &Factors)
+    requires { at + pixel_lanes ≤ length out.old }
     ensures { out.new ≡ put_colours out.old at (restored_at out.old at) }
 {
-    let factor = factor_of(out[at + 3], factors);
+    let factor = factors.of(out[at + 3]);
     let b = restored(out[at], factor);
     let g = restored(out[at + 1], factor);
     let r = restored(out[at + 2], factor);
@@ -104,33 +97,27 @@ fn restore_pixel(out: &mut [u8], at: usize, factors: &[u32; 256])
     out[at + 2] = r;
 }
 
-// Restores m pixels by lent factors. An opaque pixel is restored already.
-fn restore_pixels(out: &mut [u8], m: usize, factors: &[u32; 256])
-    requires { (length out.old ≡ row_bytes pixel_lanes m) × (factors.now ≡ tabulate restore_factor 256) }
-    ensures { out.new ≡ tabulate (restored_place PixelLayout.Bgra8 (λ x. get_or out.old x 0)) (row_bytes pixel_lanes m) }
+// Restores every pixel. An opaque pixel is restored already.
+fn restore_pixels(out: &mut [u8], factors: &Factors)
+    ensures { out.new ≡ restored_bytes out.old }
 {
-    let mut j = 0usize;
-    while j < m {
+    for j in 0..out.len() / PIXEL_LANES {
         let at = PIXEL_LANES * j;
         if out[at + 3] != 255 {
             restore_pixel(out, at, factors);
         }
-        j += 1;
     }
 }
 
-// Restores m pixels; whether some of them isn't opaque. An opaque row is restored already; for any other the factors are laid out once.
-fn restore_lanes(out: &mut [u8], m: usize) -> bool
-    requires { length out.old ≡ row_bytes pixel_lanes m }
-    ensures flag { result ≡ some_clear (alpha_in out.old) m }
-    ensures out { out.new ≡ tabulate (restored_place PixelLayout.Bgra8 (λ x. get_or out.old x 0)) (row_bytes pixel_lanes m) }
+// Restores every pixel; whether some pixel isn't opaque. An opaque row is restored already; for any other the factors are laid out once.
+fn restore_lanes(out: &mut [u8]) -> bool
+    ensures flag { result ≡ some_clear (alpha_in out.old) (pixels_in out.old) }
+    ensures out { out.new ≡ restored_bytes out.old }
 {
-    if !some_clear(out, m) {
+    if !some_clear(out) {
         return false;
     }
-    let factors = restore_factors();
-    let every = every_factor(&factors);
-    restore_pixels(out, m, &every);
+    restore_pixels(out, &Factors::laid_out());
     true
 }
 
@@ -148,81 +135,56 @@ fn swapped(argb: u32) -> u32
 fn reversed(argb: u32) -> u32
     ensures { result ≡ ordered_word PixelLayout.Argb8 argb }
 {
-    argb / 16777216
-        + 256 * (argb / 65536 % 256)
-        + 65536 * (argb / 256 % 256)
-        + 16777216 * (argb % 256)
+    argb.swap_bytes()
 }
 
-// B, G, R, A to R, G, B, A.
-fn swap_lanes(out: &mut [u8], m: usize)
-    requires { length out.old ≡ row_bytes pixel_lanes m }
-    ensures { out.new ≡ tabulate (ordered_byte PixelLayout.Rgba8 out.old) (row_bytes pixel_lanes m) }
+// The byte order of a layout, by a function that puts the lanes of a pixel in that order.
+fn order_words<F: Fn(u32) -> u32>(out: &mut [u8], order: F)
+    ghost layout: { PixelLayout }
+    requires callable { F.IsAlwaysCallable order }
+    requires orders { (argb ordered : ℕ) → argb < 2 ^ 32 → F.post order argb ordered → ordered ≡ ordered_word layout argb }
+    ensures { out.new ≡ ordered_bytes layout out.old }
 {
-    let mut j = 0usize;
-    while j < m {
+    for j in 0..out.len() / PIXEL_LANES {
         let at = PIXEL_LANES * j;
         let argb = word(out, at);
-        put_word(out, at, swapped(argb));
-        j += 1;
-    }
-}
-
-// B, G, R, A to A, R, G, B.
-fn reverse_lanes(out: &mut [u8], m: usize)
-    requires { length out.old ≡ row_bytes pixel_lanes m }
-    ensures { out.new ≡ tabulate (ordered_byte PixelLayout.Argb8 out.old) (row_bytes pixel_lanes m) }
-{
-    let mut j = 0usize;
-    while j < m {
-        let at = PIXEL_LANES * j;
-        let argb = word(out, at);
-        put_word(out, at, reversed(argb));
-        j += 1;
+        put_word(out, at, order(argb));
     }
 }
 
 // The byte order of a layout.
-fn order_lanes(layout: PixelLayout, out: &mut [u8], m: usize)
-    requires { length out.old ≡ row_bytes pixel_lanes m }
-    ensures { out.new ≡ tabulate (ordered_byte layout out.old) (row_bytes pixel_lanes m) }
+fn order_lanes(layout: PixelLayout, out: &mut [u8])
+    ensures { out.new ≡ ordered_bytes layout out.old }
 {
     match layout {
-        PixelLayout::Rgba8 => swap_lanes(out, m),
-        PixelLayout::Argb8 => reverse_lanes(out, m),
+        PixelLayout::Rgba8 => order_words(out, swapped),
+        PixelLayout::Argb8 => order_words(out, reversed),
         PixelLayout::Bgra8 => {}
     }
 }
 
 // The tests, in the order of their numbers, of a row of `out` bytes.
-fn check_restore(target_width: u32, out: usize) -> Checked
-    ensures { checked_number result ≡ restore_number target_width out }
+fn check_restore(target_width: u32, out: usize) -> Result<(), Refusal>
+    ensures { answer_number result ≡ restore_number target_width out }
 {
     if bad_side(target_width as u64) {
-        return Checked::Refused(Refusal::InvalidDimensions);
+        return Err(Refusal::InvalidDimensions);
     }
     if out != PIXEL_LANES * target_width as usize {
-        return Checked::Refused(Refusal::OutputLength);
+        return Err(Refusal::OutputLength);
     }
-    Checked::Fit
+    Ok(())
 }
 
 // Restores a row of lanes B, G, R, A in place and packs it. The Rust: mult_argb with `inverse` and pack_pixels after Rescaler::export_row.
 // Rules out: a restored colour that spills into the next lane; two lanes exchanged; a flag that looks at a colour, or is always set.
-pub fn restore_row(layout: PixelLayout, target_width: u32, out: &mut [u8]) -> Flagged
-    ensures number { flagged_number result ≡ restore_number target_width (length out.old) }
+pub fn restore_row(layout: PixelLayout, target_width: u32, out: &mut [u8]) -> Result<bool, Refusal>
+    ensures number { answer_number result ≡ restore_number target_width (length out.old) }
     ensures flag { flagged_flag result ≡ row_flag layout target_width out.old }
     ensures out { out.new ≡ restored_out layout target_width out.old }
 {
-    let checked = check_restore(target_width, out.len());
-    match checked {
-        Checked::Refused(why) => {
-            return Flagged::Refused(why);
-        }
-        Checked::Fit => {}
-    }
-    let m = target_width as usize;
-    let flag = restore_lanes(out, m);
-    order_lanes(layout, out, m);
-    Flagged::Flag(flag)
+    check_restore(target_width, out.len())?;
+    let flag = restore_lanes(out);
+    order_lanes(layout, out);
+    Ok(flag)
 }

@@ -1,5 +1,5 @@
 -- A turn of the loops of a height that grows: the byte of the newer and the older value is stored. Assumes nothing.
-use Rattle.std.proofs.Common.{◌≡◌, ℕ, ◌+◌, ◌<◌, ◌≤◌, List, length, get_or, set, sym, ap, ◌∙◌, ap₂, arith}
+use Rattle.std.proofs.Common.{◌≡◌, ℕ, ◌+◌, ◌<◌, List, length, get_or, set, sym, ap, ◌∙◌, ap₂, arith}
 use Rattle.arithmetic.specs.FixedPoint.{mult}
 use Rattle.rows.specs.Output.{clamp, mixed}
 use Rattle.rows_scaling.specs.Inner.Scaling.{GrowAsks, grow_byte}
@@ -10,8 +10,12 @@ use Rattle.rows_scaling.proofs.Factors.{mixed_none}
 pub record Grown (b factor : ℕ) (work : List ℕ) (new old : ℕ) (out₀ out : List ℕ) (w k : ℕ) : Type 0 where
   pub bytes : Stored (grow_byte b factor work new old) out₀ out w k
 
-pub grow_first : (b factor : ℕ) {work out : List ℕ} {new old w : ℕ} → GrowAsks work new old out w → Grown b factor work new old out out w 0
+pub grow_first : (b factor : ℕ) {work out : List ℕ} {new old : ℕ} → GrowAsks work new old out → Grown b factor work new old out out (length out) 0
 grow_first b factor {work} {out} {new} {old} a = record { bytes = none_stored (grow_byte b factor work new old) (omega arith) }
+
+-- the count by another name
+pub grown_to : {b factor new old w k : ℕ} {work out₀ out : List ℕ} (n : ℕ) → k ≡ n → Grown b factor work new old out₀ out w k → Grown b factor work new old out₀ out w n
+grown_to n e i = record { bytes = place i.bytes n e }
 
 module _ {factor w k new : ℕ} {work out₀ out : List ℕ} where
   pub grow_one : {b old j r : ℕ} → Grown b factor work new old out₀ out w k

@@ -1,8 +1,8 @@
 -- The factors of an output row, found once: f, the byte and the blend of Output are products with them, whatever the work values are. Assumes nothing.
-use Rattle.std.proofs.Common.{◌≡◌, ℕ, zero, suc, ◌+◌, ◌-◌, ◌*◌, ◌/◌, ◌%◌, ◌^◌, ◌<◌, ◌≤◌, Bool, true, false, cond, eqb, ltb, List, ◌++◌, get_or, drop, sym, refl, ap, ◌∙◌, ap₂, le_refl, mul-le-mul_right, mul-le-mul_left, mul-zero, add-one, arith, ltb-true, eq-eqb, ne_eqb, eqb-true, le-leb}
+use Rattle.std.proofs.Common.{◌≡◌, ℕ, zero, suc, ◌+◌, ◌-◌, ◌*◌, ◌/◌, ◌%◌, ◌^◌, ◌<◌, ◌≤◌, Bool, true, false, cond, eqb, ltb, List, ◌++◌, get_or, drop, sym, refl, ap, ◌∙◌, ap₂, le_refl, mul-le-mul_right, mul-le-mul_left, add-one, arith, ltb-true, eq-eqb, ne_eqb, eqb-true, le-leb}
 use native.Mathlib.Nat.{zero-div}
 use borrow.Author.Tests.{lt-leb}
-use Rattle.arithmetic.specs.Word.{wrap_sub, wrap_mul}
+use Rattle.arithmetic.specs.Word.{wrap_mul}
 use Rattle.arithmetic.specs.FixedPoint.{mult, floor, frac}
 use Rattle.arithmetic.specs.Table.{tabulate}
 use Rattle.arithmetic.proofs.Tables.{tabulate_cong}
@@ -158,9 +158,9 @@ half_most w c = go (eqb (c % 2) 0)
     go false = omega arith
 
 -- each half lies within the work rows
-pub grow_room : (c e : ℕ) {work out : List ℕ} {w new old : ℕ} → RoomAsks work out w → new ≡ half_of w c → old ≡ half_of w e → GrowAsks work new old out w
+pub grow_room : (c e : ℕ) {work out : List ℕ} {w new old : ℕ} → RoomAsks work out w → new ≡ half_of w c → old ≡ half_of w e → GrowAsks work new old out
 grow_room c e {w = w} r n o =
-    record { newer = omega (arith, r.halves, n, half_most w c); older = omega (arith, r.halves, o, half_most w e); exact = r.exact }
+    record { newer = omega (arith, r.halves, r.exact, n, half_most w c); older = omega (arith, r.halves, r.exact, o, half_most w e) }
 
 module _ (s : Scale) (u y : ℕ) (work : List ℕ) (up : s.h < s.g) where
   abbrev rest : ℕ

@@ -4,7 +4,7 @@ use Rattle.arithmetic.specs.Word.{wrap_sub}
 use Rattle.arithmetic.specs.FixedPoint.{mult, floor}
 use Rattle.arithmetic.proofs.Words.{wrap_sub_is}
 use Rattle.rows.specs.Output.{clamp}
-use Rattle.rows_scaling.specs.Inner.Scaling.{RoomAsks, shrink_left, shrink_byte, low_byte}
+use Rattle.rows_scaling.specs.Inner.Scaling.{shrink_left, shrink_byte, low_byte}
 use Rattle.arithmetic.proofs.Stores.{Stored, none_stored, store, ahead}
 
 -- f by the step 0
@@ -17,9 +17,9 @@ pub record Shrunk (step q w : ℕ) (work₀ out₀ work out : List ℕ) (k : ℕ
   pub left : Stored (shrink_left step w work₀) work₀ work w k
   pub bytes : Stored (shrink_byte step q w work₀) out₀ out w k
 
-pub shrink_first : (step q : ℕ) {w : ℕ} {work out : List ℕ} → RoomAsks work out w → Shrunk step q w work out work out 0
-shrink_first step q {w} {work} {out} a =
-    record { left = none_stored (shrink_left step w work) (omega arith); bytes = none_stored (shrink_byte step q w work) (omega arith) }
+pub shrink_first : (step q : ℕ) {work out : List ℕ} → length out + length out ≤ length work → Shrunk step q (length out) work out work out 0
+shrink_first step q {work} {out} h =
+    record { left = none_stored (shrink_left step (length out) work) (omega arith); bytes = none_stored (shrink_byte step q (length out) work) (omega arith) }
 
 module _ {step q w k : ℕ} {work₀ out₀ work out : List ℕ} (i : Shrunk step q w work₀ out₀ work out k) where
   -- f is read from the second half, which no turn reaches, and the difference from the first half's next value
@@ -42,8 +42,8 @@ pub record Taken (w : ℕ) (work₀ out₀ work out : List ℕ) (k : ℕ) : Type
   pub left : Stored (λ x. 0) work₀ work w k
   pub bytes : Stored (low_byte work₀) out₀ out w k
 
-pub take_first : {w : ℕ} {work out : List ℕ} → RoomAsks work out w → Taken w work out work out 0
-take_first {w} {work} {out} a =
+pub take_first : {work out : List ℕ} → length out + length out ≤ length work → Taken (length out) work out work out 0
+take_first {work} {out} h =
     record { left = none_stored (λ x. 0) (omega arith); bytes = none_stored (low_byte work) (omega arith) }
 
 pub take_turn : {w k : ℕ} {work₀ out₀ work out : List ℕ} → Taken w work₀ out₀ work out k → k < w

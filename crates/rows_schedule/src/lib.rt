@@ -11,14 +11,7 @@ ghost use Rattle.rows_schedule.specs.Schedule.{used, made, rows_by, counts_fit, 
 pub fn used_rows(top: u32, height: u32, accepted: u32) -> u32
     ensures { result ≡ used top height accepted }
 {
-    if accepted < top {
-        return 0;
-    }
-    let below = accepted - top;
-    if below < height {
-        return below;
-    }
-    height
+    accepted.saturating_sub(top).min(height)
 }
 
 // R of u: how many output rows the first crop rows make.
@@ -52,24 +45,14 @@ pub fn rows_by(top: u32, height: u32, target: u32, accepted: u32) -> u64
     made_rows(height, target, used_rows(top, height, accepted))
 }
 
-fn less_one(k: u32) -> u32
-    ensures { result ≡ k - 1 }
-{
-    if k == 0 {
-        return 0;
-    }
-    k - 1
-}
-
-// x / d rounded up; 0 for d = 0. No product of two words, with a word added, is too large for it.
+// x / d rounded up; 0 for d = 0.
 fn rounded_up(x: u64, d: u32) -> u64
-    requires { x ≤ 0xffff_ffff_0000_0000 }
     ensures { result ≡ ceil x d }
 {
     if d == 0 {
         return 0;
     }
-    (x + (d - 1) as u64) / d as u64
+    x.div_ceil(d as u64)
 }
 
 // U of an output row: how many crop rows it needs, the least whose R is above it.
@@ -80,7 +63,10 @@ pub fn needed_rows(height: u32, target: u32, row: u32) -> u64
     if target <= height {
         return rounded_up((row as u64 + 1) * height as u64, target);
     }
-    1 + rounded_up(row as u64 * less_one(height) as u64, less_one(target))
+    1 + rounded_up(
+        row as u64 * height.saturating_sub(1) as u64,
+        target.saturating_sub(1),
+    )
 }
 
 // The counts that calls can reach: k ≤ source height, R(k-1) ≤ t ≤ R(k).
@@ -98,7 +84,7 @@ pub fn counts_fit(
     if source < accepted {
         return false;
     }
-    let before = less_one(accepted);
+    let before = accepted.saturating_sub(1);
     if (taken as u64) < rows_by(top, height, target, before) {
         return false;
     }

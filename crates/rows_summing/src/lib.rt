@@ -12,6 +12,7 @@ use pixels::PIXEL_LANES;
 use pixels_layout::PixelLayout;
 use rows_gathering::{block_columns, block_fits, gather_block};
 
+// Kept: it tells that an entry fits 16 bits, which the array behind a reference does not.
 fn wide(x: u16) -> usize
     ensures is { result ≡ x }
     ensures small { result ≤ 65535 }
@@ -25,17 +26,15 @@ fn alphas(sums: &[u16; 256], count: usize, place: usize) -> usize
     ensures { result ≡ sum (alpha_sum sums.now place) 0 count }
 {
     let mut total = 0usize;
-    let mut k = 0usize;
-    while k < count {
+    for k in 0..count {
         let i = 8 * k + place;
         total = total + wide(sums[i]) + wide(sums[i + 4]);
-        k += 1;
     }
     total
 }
 
 // The bytes as they stand are tried where the pixel that the block begins in is opaque. Where all alphas come to 255 for each pixel, every one is 255, since none is more.
-// One call in a loop of two turns: the compiler makes one copy of it, in place.
+// Kept: one call in a loop of two turns, of which the compiler makes one copy, in place.
 fn sum_columns(
     layout: PixelLayout,
     n: usize,

@@ -2,10 +2,10 @@
 #![tactic(auto)]
 
 ghost use Rattle.std.specs.Prelude.{◌≡◌};
-ghost use Rattle.pixels.specs.Refusals.{checked_number};
+ghost use Rattle.pixels.specs.Refusals.{answer_number};
 ghost use Rattle.rows_tests.specs.Tests.{import_number, scale_number, values_number};
 
-use pixels::{Checked, Dimensions, Refusal, bad_side, bad_size};
+use pixels::{Dimensions, Refusal, bad_side, bad_size};
 use pixels_sizes::bad_lanes;
 use rows_due::due;
 
@@ -26,25 +26,25 @@ pub fn check_import(
     target_width: u32,
     bytes: usize,
     room: usize,
-) -> Checked
-    ensures { checked_number result ≡ import_number lanes crop_width target_width bytes room }
+) -> Result<(), Refusal>
+    ensures { answer_number result ≡ import_number lanes crop_width target_width bytes room }
 {
     if bad_side(crop_width as u64) {
-        return Checked::Refused(Refusal::InvalidDimensions);
+        return Err(Refusal::InvalidDimensions);
     }
     if bad_side(target_width as u64) {
-        return Checked::Refused(Refusal::InvalidDimensions);
+        return Err(Refusal::InvalidDimensions);
     }
     if bad_lanes(lanes) {
-        return Checked::Refused(Refusal::InvalidLanes);
+        return Err(Refusal::InvalidLanes);
     }
     if bytes != lanes as usize * crop_width as usize {
-        return Checked::Refused(Refusal::PixelBufferMismatch);
+        return Err(Refusal::PixelBufferMismatch);
     }
     if room < lanes as usize * target_width as usize {
-        return Checked::Refused(Refusal::WorkLength);
+        return Err(Refusal::WorkLength);
     }
-    Checked::Fit
+    Ok(())
 }
 
 // Those of `scale_row`, of an output of `out` bytes and `work` work values.
@@ -57,51 +57,57 @@ pub fn check_scale(
     row: u32,
     out: usize,
     work: usize,
-) -> Checked
-    ensures { checked_number result ≡ scale_number lanes crop target used row out work }
+) -> Result<(), Refusal>
+    ensures { answer_number result ≡ scale_number lanes crop target used row out work }
 {
     if bad_size(crop) {
-        return Checked::Refused(Refusal::InvalidDimensions);
+        return Err(Refusal::InvalidDimensions);
     }
     if bad_size(target) {
-        return Checked::Refused(Refusal::InvalidDimensions);
+        return Err(Refusal::InvalidDimensions);
     }
     if bad_lanes(lanes) {
-        return Checked::Refused(Refusal::InvalidLanes);
+        return Err(Refusal::InvalidLanes);
     }
     let w = lanes as usize * target.width as usize;
     let both = 2 * w;
     if out != w {
-        return Checked::Refused(Refusal::OutputLength);
+        return Err(Refusal::OutputLength);
     }
     if work < both {
-        return Checked::Refused(Refusal::WorkLength);
+        return Err(Refusal::WorkLength);
     }
     if !due(crop.height, target.height, used, row) {
-        return Checked::Refused(Refusal::NoneReady);
+        return Err(Refusal::NoneReady);
     }
-    Checked::Fit
+    Ok(())
 }
 
 // Those of `scale_values`, of an output of `out` bytes and `work` work values.
 // Rules out: a row of a crop without rows; work values for one half alone.
-pub fn check_values(s: RowScale, used: u32, row: u32, out: usize, work: usize) -> Checked
-    ensures { checked_number result ≡ values_number s used row out work }
+pub fn check_values(
+    s: RowScale,
+    used: u32,
+    row: u32,
+    out: usize,
+    work: usize,
+) -> Result<(), Refusal>
+    ensures { answer_number result ≡ values_number s used row out work }
 {
     if s.span == 0 {
-        return Checked::Refused(Refusal::InvalidDimensions);
+        return Err(Refusal::InvalidDimensions);
     }
     if s.h == 0 {
-        return Checked::Refused(Refusal::InvalidDimensions);
+        return Err(Refusal::InvalidDimensions);
     }
     if out != s.w {
-        return Checked::Refused(Refusal::OutputLength);
+        return Err(Refusal::OutputLength);
     }
     if work / 2 < s.w {
-        return Checked::Refused(Refusal::WorkLength);
+        return Err(Refusal::WorkLength);
     }
     if !due(s.h, s.g, used, row) {
-        return Checked::Refused(Refusal::NoneReady);
+        return Err(Refusal::NoneReady);
     }
-    Checked::Fit
+    Ok(())
 }

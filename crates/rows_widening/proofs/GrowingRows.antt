@@ -1,5 +1,5 @@
 -- A row whose width grows, column after column: acc parts of the left pixel are unused by the columns made, and the next column uses n - 1 of them. Assumes nothing.
-use Rattle.std.proofs.Common.{◌≡◌, ℕ, suc, ◌+◌, ◌-◌, ◌*◌, ◌%◌, ◌<◌, ◌≤◌, ◌⊎◌, List, length, sym, refl, ap, ◌∙◌, inl, inr, mul-le-mul_right, mod-lt, mod-eq_of_lt, mul-le-mul, lt_of_mul-lt-mul_right, eq-or-lt_of_le, mul-le-mul_left, mul-zero, arith}
+use Rattle.std.proofs.Common.{◌≡◌, ℕ, suc, ◌+◌, ◌-◌, ◌*◌, ◌%◌, ◌<◌, ◌≤◌, ◌⊎◌, List, sym, refl, ap, ◌∙◌, inl, inr, mul-le-mul_right, mod-lt, mod-eq_of_lt, lt_of_mul-lt-mul_right, mul-le-mul_left, mul-zero, arith}
 use Rattle.arithmetic.proofs.Orders.{le_or_lt}
 use Rattle.arithmetic.proofs.Stores.{Stored, none_stored, place, same, all_stored}
 use Rattle.rows.specs.Column.{value}

@@ -4,13 +4,13 @@
 
 ghost use Rattle.std.specs.Prelude.{◌≡◌, ◌<◌, ◌≤◌, length, slice_index};
 ghost use Rattle.arithmetic.specs.Word.{wrap_add, wrap_sub, wrap_mul};
-ghost use Rattle.pixels.specs.Refusals.{checked_number};
+ghost use Rattle.pixels.specs.Refusals.{answer_number};
 ghost use Rattle.rows_tests.specs.Tests.{import_number};
 ghost use Rattle.rows_widening.specs.Widening.{widened_half};
 ghost use Rattle.rows_widening.specs.Inner.{byte_of, set_all, PartAsks, between_value, BetweenAsks, StandAsks, StandIs, RowAsks, row_written};
 
 use arithmetic::wrapping_mul;
-use pixels::Checked;
+use pixels::Refusal;
 use rows_tests::check_import;
 use std::num::{wrapping_add_u32, wrapping_sub_u32};
 
@@ -69,13 +69,11 @@ fn put_between(
     requires { BetweenAsks row.now lanes left right acc rest half.old at }
     ensures { half.new ≡ set_all half.old at (between_value lanes row.now left right acc rest) lanes }
 {
-    let mut k = 0usize;
-    while k < lanes {
+    for k in 0..lanes {
         half[at + k] = wrapping_add_u32(
             part(row, lanes, k, left, acc),
             part(row, lanes, k, right, rest),
         );
-        k += 1;
     }
 }
 
@@ -93,8 +91,7 @@ fn grow_lanes(row: &[u8], lanes: usize, n: usize, m: usize, half: &mut [u32])
         x: 0,
         acc: span + step,
     };
-    let mut j = 0usize;
-    while j < m {
+    for j in 0..m {
         s = next_stand(span, step, s);
         put_between(
             row,
@@ -106,11 +103,11 @@ fn grow_lanes(row: &[u8], lanes: usize, n: usize, m: usize, half: &mut [u32])
             half,
             lanes * j,
         );
-        j += 1;
     }
 }
 
 // One lane of a column: acc parts of the pixel `left`, rest of the pixel `right`.
+// Kept: beside the same of four lanes (rows_growing), since a trait with these calls as its methods is longer than they are.
 fn between(left: u32, right: u32, acc: u32, rest: u32) -> u32
     ensures { result ≡ wrap_add (wrap_mul left acc) (wrap_mul right rest) }
 {
@@ -132,7 +129,7 @@ fn fall_of(left: u32, right: u32, step: u32) -> u32
 }
 
 // Every column of one lane. Within a pair of pixels a column is the one before less the fall; products are made only where a pixel is passed. The last column
-// uses up the parts of the last pair, so columns are not counted: fewer jumps. Of one pixel no column uses any parts: that row is not for here.
+// uses up the parts of the last pair. Of one pixel no column uses any parts: that row is not for here. Kept: no for, since columns are not counted: fewer jumps.
 fn grow_lane(row: &[u8], n: usize, m: usize, half: &mut [u32])
     requires row_asks { RowAsks row.now half.old 1 n m }
     requires lt_n { (1 < n) × (n < m) }
@@ -167,6 +164,7 @@ fn grow_lane(row: &[u8], n: usize, m: usize, half: &mut [u32])
     }
 }
 
+// Kept: RowAsks tells of the half too, and a struct that holds a &mut has no ghost field.
 fn grow(row: &[u8], lanes: usize, n: usize, m: usize, half: &mut [u32])
     requires row_asks { RowAsks row.now half.old lanes n m }
     requires n_lt_m { n < m }
@@ -187,24 +185,19 @@ pub fn widen_plane_row(
     target_width: u32,
     row: &[u8],
     half: &mut [u32],
-) -> Checked
-    ensures number { checked_number result ≡ import_number lanes crop_width target_width (length row.now) (length half.old) }
+) -> Result<(), Refusal>
+    ensures number { answer_number result ≡ import_number lanes crop_width target_width (length row.now) (length half.old) }
     ensures half { half.new ≡ widened_half lanes crop_width target_width row.now half.old }
 {
-    let checked = check_import(lanes, crop_width, target_width, row.len(), half.len());
-    match checked {
-        Checked::Refused(_) => {}
-        Checked::Fit => {
-            if crop_width < target_width {
-                grow(
-                    row,
-                    lanes as usize,
-                    crop_width as usize,
-                    target_width as usize,
-                    half,
-                );
-            }
-        }
+    check_import(lanes, crop_width, target_width, row.len(), half.len())?;
+    if crop_width < target_width {
+        grow(
+            row,
+            lanes as usize,
+            crop_width as usize,
+            target_width as usize,
+            half,
+        );
     }
-    checked
+    Ok(())
 }

@@ -1,6 +1,6 @@
 // One column made taller: span 1, for a target one or two wide.
 use crate::planes::size;
-use crate::{begin, begun, count_line, fed, hex_line, job_lines, picture_line, took, turns, whole};
+use crate::{begin, begun, count_line, hex_line, job_lines, picture_line, turns, whole};
 use job_start::start_plane;
 use pixels::Dimensions;
 use std::io;
@@ -61,19 +61,10 @@ fn tall(rt: &impl Print, pixel: &[u8]) -> io::Result<()> {
 }
 
 // How many bytes are as those of the first pixel.
-fn repeated(bytes: &[u8]) -> u32 {
-    let mut n = 0u32;
-    for i in 0..bytes.len() {
-        n = n.wrapping_add(alike(bytes[i], bytes[i % 4]));
-    }
-    n
-}
-
-fn alike(a: u8, b: u8) -> u32 {
-    if a == b {
-        return 1;
-    }
-    0
+fn repeated(bytes: &[u8]) -> usize {
+    (0..bytes.len())
+        .filter(|&i| bytes[i] == bytes[i % 4])
+        .count()
 }
 
 // Work values that no row made: one above 255 is cut at 255, however large.
@@ -82,10 +73,10 @@ fn forged(rt: &impl Print) -> io::Result<()> {
     let source = size(1, 1);
     let started = start_plane(source, 4, whole(source), size(1, 2), &mut work);
     let fresh = begun(rt, started, source, source)?;
-    let full = fed(fresh.offer(&[1, 2, 3, 4], &mut work));
+    let full = fresh.offer(&[1, 2, 3, 4], &mut work).next;
     let mut values = [0, 0, 0, 0, 254, 256, 0x8000_0001, 0xffff_ffff];
     let mut out = [1u8; 4];
-    let done = took(full.take(&mut out, &mut values));
+    let done = full.take(&mut out, &mut values).next;
     hex_line(rt, &out)?;
     count_line(rt, done)
 }

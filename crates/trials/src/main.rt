@@ -4,11 +4,12 @@
 
 ghost use Rattle.std.specs.Prelude.{◌≤◌};
 
-use job::{Job, Offered, Taken};
+use job::Job;
 use job_rules::{Kind, Plan, row_bytes};
-use job_start::{Started, start};
-use pixels::{Dimensions, PIXEL_LANES, Rect, Refusal, Sized};
+use job_start::start;
+use pixels::{Dimensions, PIXEL_LANES, Rect, Refusal};
 use pixels_layout::PixelLayout;
+use planes::size;
 use std::io;
 
 mod dividers;
@@ -77,14 +78,8 @@ fn whites(rt: &impl Print) -> io::Result<()> {
 
 fn white(rt: &impl Print, height: u32) -> io::Result<()> {
     let mut work = [0u32; 8];
-    let source = Dimensions {
-        width: 16384,
-        height,
-    };
-    let target = Dimensions {
-        width: 1,
-        height: 1,
-    };
+    let source = size(16384, height);
+    let target = size(1, 1);
     let begun = begin(rt, source, target, &mut work)?;
     let full = offer_white(begun, height, &mut work);
     take_pixel(rt, full, &mut work)
@@ -99,14 +94,13 @@ fn take_pixel(rt: &impl Print, full: Job, work: &mut [u32]) -> io::Result<()> {
     let mut out = [1u8; 4];
     let answer = full.take(&mut out, work);
     hex_line(rt, &out)?;
-    count_line(rt, took(answer))
+    count_line(rt, answer.next)
 }
 
 fn offer_each(begun: Job, times: u32, row: &[u8], work: &mut [u32]) -> Job {
     let mut job = begun;
     for _ in 0..times {
-        let answer = job.offer(row, work);
-        job = fed(answer);
+        job = job.offer(row, work).next;
     }
     job
 }
@@ -141,10 +135,7 @@ fn scale_in_cuts(
 ) -> io::Result<()> {
     let mut work = [0u32; 56];
     let mut out = [0u8; 308];
-    let source = Dimensions {
-        width: 5,
-        height: 7,
-    };
+    let source = size(5, 7);
     let begun = begin(rt, source, target, &mut work)?;
     let done = turns(begun, 64, rows, ragged, pixels, &mut work, &mut out);
     job_lines(rt, done, &out)
@@ -184,8 +175,7 @@ fn offer_cut(job: Job, rows: u32, pixels: &[u8], work: &mut [u32]) -> Job {
     if end < at {
         return job;
     }
-    let answer = job.offer(&pixels[at..end], work);
-    fed(answer)
+    job.offer(&pixels[at..end], work).next
 }
 
 // The next row, at its place in the preview.
@@ -196,27 +186,20 @@ fn take_row(job: Job, work: &mut [u32], out: &mut [u8]) -> Job {
     if end < at {
         return job;
     }
-    let answer = job.take(&mut out[at..end], work);
-    took(answer)
+    job.take(&mut out[at..end], work).next
 }
 
 // Where row k starts, of `row` bytes each, or the end of the bytes where that is before it.
 fn place(row: usize, k: u32, len: usize) -> usize
     ensures { result ≤ len }
 {
-    if row == 0 {
-        return 0;
-    }
-    if len / row < k as usize {
-        return len;
-    }
-    row * k as usize
+    row.saturating_mul(k as usize).min(len)
 }
 
 // Colours and alphas of every size.
 fn fill(pixels: &mut [u8]) {
-    for i in 0..pixels.len() {
-        pixels[i] = (((i % 251) * 37 + 11) % 256) as u8;
+    for (i, byte) in pixels.iter_mut().enumerate() {
+        *byte = (((i % 251) * 37 + 11) % 256) as u8;
     }
 }
 
@@ -236,24 +219,19 @@ fn begin(
 
 // The full crop.
 fn whole(source: Dimensions) -> Rect {
-    Rect {
-        x: 0,
-        y: 0,
-        width: source.width,
-        height: source.height,
-    }
+    Rect::new(0, 0, source.width, source.height)
 }
 
 // The job that was started. A refusal is written, and the record of it turns every call away.
 fn begun(
     rt: &impl Print,
-    started: Started,
+    started: Result<Job, Refusal>,
     source: Dimensions,
     target: Dimensions,
 ) -> io::Result<Job> {
     match started {
-        Started::Fresh { job } => Ok(job),
-        Started::Refused { why } => {
+        Ok(job) => Ok(job),
+        Err(why) => {
             refused_line(rt, why)?;
             Ok(Job {
                 plan: Plan {
@@ -272,29 +250,10 @@ fn begun(
     }
 }
 
-fn fed(answer: Offered) -> Job {
-    match answer {
-        Offered::Accepted { rows: _, job } => job,
-        Offered::Refused { why: _, job } => job,
-    }
-}
-
-fn took(answer: Taken) -> Job {
-    match answer {
-        Taken::Wrote { job } => job,
-        Taken::Refused { why: _, job } => job,
-    }
-}
-
 fn scaled(rt: &impl Print, w: u32, h: u32, width: u32, height: u32) -> io::Result<()> {
-    let size = Dimensions {
-        width: w,
-        height: h,
-    };
-    let answer = size.scaled(width, height);
-    match answer {
-        Sized::Size(size) => println!(rt; "{} by {}", size.width, size.height),
-        Sized::Refused(why) => refused_line(rt, why),
+    match size(w, h).scaled(width, height) {
+        Ok(size) => println!(rt; "{} by {}", size.width, size.height),
+        Err(why) => refused_line(rt, why),
     }
 }
 
@@ -325,6 +284,8 @@ fn picture_line(rt: &impl Print, row: usize, height: u32, bytes: &[u8]) -> io::R
     hex_line(rt, &bytes[..end])
 }
 
+// Kept, as `number` and `place`, in each program of trials, so that it is read alone: a crate for these few lines would owe contracts.
+// Kept: bytes and words, a format each; a function of both would be told how to get a byte.
 fn hex_line(rt: &impl Print, bytes: &[u8]) -> io::Result<()> {
     for byte in bytes {
         print!(rt; "{byte:02x}")?;

@@ -1,9 +1,9 @@
 // Planes: SCOPE's trials of one lane, then two, three and four lanes, each scaled as it is; and three planes started together.
 use crate::{begun, fill, job_lines, refused_line, turns, whole, words_line};
 use job::Job;
-use job_planes::{StartedPlanes, start_planes};
+use job_planes::{Planes, start_planes};
 use job_start::start_plane;
-use pixels::{Dimensions, Rect};
+use pixels::{Dimensions, Rect, Refusal};
 use std::io;
 
 pub(crate) fn trials(rt: &impl Print) -> io::Result<()> {
@@ -104,10 +104,10 @@ fn window(
 // ---- 5 by 7, of one to four lanes, in ragged cuts
 
 fn filled(rt: &impl Print, width: u32, height: u32) -> io::Result<()> {
-    ragged(rt, 1, size(width, height))?;
-    ragged(rt, 2, size(width, height))?;
-    ragged(rt, 3, size(width, height))?;
-    ragged(rt, 4, size(width, height))
+    for lanes in 1..5 {
+        ragged(rt, lanes, size(width, height))?;
+    }
+    Ok(())
 }
 
 // The bytes of four lanes; of fewer, the source's last row ends before them.
@@ -122,12 +122,7 @@ fn ragged(rt: &impl Print, lanes: u32, target: Dimensions) -> io::Result<()> {
 fn cropped(rt: &impl Print) -> io::Result<()> {
     let mut bytes = [0u8; 105];
     fill(&mut bytes);
-    let crop = Rect {
-        x: 1,
-        y: 2,
-        width: 3,
-        height: 4,
-    };
+    let crop = Rect::new(1, 2, 3, 4);
     window(rt, 3, size(5, 7), crop, size(2, 5), 0, &bytes)
 }
 
@@ -151,21 +146,22 @@ fn three(rt: &impl Print, luma: &mut [u32], cb: &mut [u32], cr: &mut [u32]) -> i
 
 fn run_all(
     rt: &impl Print,
-    started: StartedPlanes,
+    started: Result<Planes, Refusal>,
     luma: &mut [u32],
     cb: &mut [u32],
     cr: &mut [u32],
 ) -> io::Result<()> {
     match started {
-        StartedPlanes::Refused { why } => refused_line(rt, why),
-        StartedPlanes::Fresh {
-            luma: y,
-            cb: b,
-            cr: r,
-        } => {
-            run(rt, y, &[10, 21, 30, 40, 50, 60, 0, 255, 128], luma)?;
-            run(rt, b, &[10, 21, 30, 41], cb)?;
-            run(rt, r, &[255, 0, 255, 254], cr)
+        Err(why) => refused_line(rt, why),
+        Ok(planes) => {
+            run(
+                rt,
+                planes.luma,
+                &[10, 21, 30, 40, 50, 60, 0, 255, 128],
+                luma,
+            )?;
+            run(rt, planes.cb, &[10, 21, 30, 41], cb)?;
+            run(rt, planes.cr, &[255, 0, 255, 254], cr)
         }
     }
 }

@@ -1,10 +1,11 @@
 // What is turned away of planes: starts by their order 1, 10, 2, 5, records that are neither a picture's nor a plane's, and three planes of which one is refused.
-use crate::{begun, fed, refused_line, took, whole, words_line};
-use job::{Job, Offered, Taken};
-use job_planes::{StartedPlanes, start_planes};
+use crate::planes::size;
+use crate::{begun, refused_line, whole, words_line};
+use job::Job;
+use job_planes::start_planes;
 use job_rules::{Kind, Plan};
-use job_start::{Started, start_plane};
-use pixels::{Dimensions, Rect};
+use job_start::start_plane;
+use pixels::{Rect, Refusal};
 use pixels_layout::PixelLayout;
 use std::io;
 
@@ -37,29 +38,18 @@ fn started(
     crop_width: u32,
     work: &mut [u32],
 ) -> io::Result<()> {
-    let source = Dimensions { width, height: 1 };
-    let target = Dimensions {
-        width: 2,
-        height: 1,
-    };
-    let crop = Rect {
-        x: 0,
-        y: 0,
-        width: crop_width,
-        height: 1,
-    };
-    start_line(rt, start_plane(source, lanes, crop, target, work))
+    let source = size(width, 1);
+    let target = size(2, 1);
+    let crop = Rect::new(0, 0, crop_width, 1);
+    said_line(rt, start_plane(source, lanes, crop, target, work))
 }
 
-fn start_line(rt: &impl Print, answer: Started) -> io::Result<()> {
-    match answer {
-        Started::Fresh { job: _ } => went_line(rt),
-        Started::Refused { why } => refused_line(rt, why),
+// Whether a call went through, or why it was turned away.
+fn said_line<T: Copy>(rt: &impl Print, said: Result<T, Refusal>) -> io::Result<()> {
+    match said {
+        Ok(_) => println!(rt; "went through"),
+        Err(why) => refused_line(rt, why),
     }
-}
-
-fn went_line(rt: &impl Print) -> io::Result<()> {
-    println!(rt; "went through")
 }
 
 // ---- records: 6 by offer and by take
@@ -67,15 +57,12 @@ fn went_line(rt: &impl Print) -> io::Result<()> {
 // One column of two lanes, two rows high, of which a row came in and went out.
 fn half_way(rt: &impl Print) -> io::Result<Job> {
     let mut work = [7u32; 4];
-    let source = Dimensions {
-        width: 1,
-        height: 2,
-    };
+    let source = size(1, 2);
     let started = start_plane(source, 2, whole(source), source, &mut work);
     let fresh = begun(rt, started, source, source)?;
-    let first = fed(fresh.offer(&[3, 4], &mut work));
+    let first = fresh.offer(&[3, 4], &mut work).next;
     let mut out = [1u8; 2];
-    Ok(took(first.take(&mut out, &mut work)))
+    Ok(first.take(&mut out, &mut work).next)
 }
 
 fn records(rt: &impl Print) -> io::Result<()> {
@@ -103,23 +90,17 @@ fn told(
     flag: bool,
 ) -> io::Result<()> {
     let job = half_way(rt)?;
-    let source = job.plan.source;
-    let crop = job.plan.crop;
-    let target = job.plan.target;
     tried(
         rt,
         Job {
             plan: Plan {
-                source,
                 layout,
-                crop,
-                target,
                 kind,
                 lanes,
+                ..job.plan
             },
-            accepted: job.accepted,
-            taken: job.taken,
             flag,
+            ..job
         },
     )
 }
@@ -128,22 +109,8 @@ fn told(
 fn tried(rt: &impl Print, job: Job) -> io::Result<()> {
     let mut work = [7u32; 16];
     let mut out = [1u8; 2];
-    offer_line(rt, job.offer(&[5, 6], &mut work))?;
-    take_line(rt, job.take(&mut out, &mut work))
-}
-
-fn offer_line(rt: &impl Print, answer: Offered) -> io::Result<()> {
-    match answer {
-        Offered::Accepted { rows: _, job: _ } => went_line(rt),
-        Offered::Refused { why, job: _ } => refused_line(rt, why),
-    }
-}
-
-fn take_line(rt: &impl Print, answer: Taken) -> io::Result<()> {
-    match answer {
-        Taken::Wrote { job: _ } => went_line(rt),
-        Taken::Refused { why, job: _ } => refused_line(rt, why),
-    }
+    said_line(rt, job.offer(&[5, 6], &mut work).said)?;
+    said_line(rt, job.take(&mut out, &mut work).said)
 }
 
 // ---- three planes: none is started where a number applies to any
@@ -159,24 +126,10 @@ fn threes(rt: &impl Print) -> io::Result<()> {
 fn three(rt: &impl Print, height: u32, cr: &mut [u32]) -> io::Result<()> {
     let mut luma = [7u32; 10];
     let mut cb = [8u32; 6];
-    let source = Dimensions { width: 3, height };
-    let target = Dimensions {
-        width: 5,
-        height: 2,
-    };
-    three_line(rt, start_planes(source, target, &mut luma, &mut cb, cr))?;
+    let source = size(3, height);
+    let target = size(5, 2);
+    said_line(rt, start_planes(source, target, &mut luma, &mut cb, cr))?;
     words_line(rt, &luma)?;
     words_line(rt, &cb)?;
     words_line(rt, cr)
-}
-
-fn three_line(rt: &impl Print, answer: StartedPlanes) -> io::Result<()> {
-    match answer {
-        StartedPlanes::Fresh {
-            luma: _,
-            cb: _,
-            cr: _,
-        } => went_line(rt),
-        StartedPlanes::Refused { why } => refused_line(rt, why),
-    }
 }

@@ -22,7 +22,7 @@ returns-in_default c =
     let args = c.args in
     let if1 = c.if-count-lt1 in
     let number = c.number in
-    let read-job = c.read_job-told in
+    let read-job = c.read_job in
     let g = args in
     let both = count_no_record g.«record».now g.count.now if1.false number.result read-job.ensures c.in_default.is number.ensures in
     record { number = both.0; count = both.1 }
@@ -31,12 +31,12 @@ pub returns-then-not-check : goal.returns-then-not-check
 returns-then-not-check c =
     let args = c.args in
     let if1 = c.if-count-lt1 in
-    let read-job = c.read_job-told in
+    let read-job = c.read_job in
     let check = c.check in
     let number2 = c.number-then-not-check in
     let if2 = c.if-not-check in
     let g = args in
-    let both = count_refused g.«record».now g.count.now if1.false c.in-Job.job read-job.ensures c.in-Job.is _ check.ensures number2.result if2.true-raw
+    let both = count_refused g.«record».now g.count.now if1.false c.in-Some.job read-job.ensures c.in-Some.is _ check.ensures number2.result if2.true-raw
     number2.ensures in
     record { number = both.0; count = both.1 }
 
@@ -44,12 +44,12 @@ pub returns : goal.returns
 returns c =
     let args = c.args in
     let if1 = c.if-count-lt1 in
-    let read-job = c.read_job-told in
+    let read-job = c.read_job in
     let check = c.check in
     let if2 = c.if-not-check in
     let band-rows = c.band_rows in
     let store = c.store in
     let g = args in
-    let both = count_told g.«record».now g.count.now if1.false c.in-Job.job read-job.ensures c.in-Job.is _ check.ensures _ _ if2.false-raw
+    let both = count_told g.«record».now g.count.now if1.false c.in-Some.job read-job.ensures c.in-Some.is _ check.ensures _ _ if2.false-raw
     band-rows.ensures store.ensures in
     record { number = both.0; count = both.1 }

@@ -22,22 +22,22 @@ returns-then-count-lt1 c =
 pub returns-in_default : goal.returns-in_default
 returns-in_default c =
     let g = c.args in
-    let told = c.read_job-told.ensures in
+    let told = c.read_job.ensures in
     let lent = c.if-count-lt1.false in
     let both = band_no_record g.«record».now g.rows.now g.work.now g.count.now lent c.number.result told c.in_default.is c.number.ensures in
     record { number = both.0; «record» = both.1.0; work = both.1.1.0; count = both.1.1.1 }
 
-pub returns-in-Refused : goal.returns-in-Refused
-returns-in-Refused c =
+pub returns-in-Err : goal.returns-in-Err
+returns-in-Err c =
     let g = c.args in
-    let both = band_refused g.«record».now g.rows.now g.work.now g.count.now c.if-count-lt1.false c.in-Job.job c.read_job-told.ensures c.in-Job.is
-    c.offer_band-answer.result c.offer_band-answer.ensures.number _ c.offer_band-answer.ensures.work c.in-Refused.why _ c.number-in-Refused.result c.in-Refused.is c.number-in-Refused.ensures in
+    let both = band_refused g.«record».now g.rows.now g.work.now g.count.now c.if-count-lt1.false c.in-Some.job c.read_job.ensures c.in-Some.is
+    c.offer_band-answer.result.said c.offer_band-answer.ensures.number _ c.offer_band-answer.ensures.work c.in-Err.why c.number-in-Err.result c.in-Err.is c.number-in-Err.ensures in
     record { number = both.0; «record» = both.1.0; work = both.1.1.0; count = both.1.1.1 }
 
-pub returns-in-Accepted : goal.returns-in-Accepted
-returns-in-Accepted c =
+pub returns-in-Ok : goal.returns-in-Ok
+returns-in-Ok c =
     let g = c.args in
-    let both = band_accepted_lem g.«record».now g.rows.now g.work.now g.count.now c.if-count-lt1.false c.in-Job.job c.read_job-told.ensures c.in-Job.is
-    c.offer_band-answer.result c.offer_band-answer.ensures.number _ c.offer_band-answer.ensures.work _ _ _ _ c.in-Accepted.is c.offer_band-answer.ensures.rows c.offer_band-answer.ensures.job
+    let both = band_accepted_lem g.«record».now g.rows.now g.work.now g.count.now c.if-count-lt1.false c.in-Some.job c.read_job.ensures c.in-Some.is
+    c.offer_band-answer.result.said c.offer_band-answer.ensures.number _ c.offer_band-answer.ensures.work _ _ _ _ c.in-Ok.is c.offer_band-answer.ensures.rows c.offer_band-answer.ensures.job
     c.store_job.ensures c.store.ensures in
     record { number = both.0; «record» = both.1.0; work = both.1.1.0; count = both.1.1.1 }

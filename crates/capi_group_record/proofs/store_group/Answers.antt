@@ -1,5 +1,5 @@
 -- Too few words are left as they were. The invariant: the count and the words of the first i jobs, then what stood there. Assumes nothing.
-use Prim.Native.Nat.{◌-◌, ◌≤◌}
+use Prim.Native.Nat.{◌≤◌}
 use mathlib.Core.Path.{refl, ◌∙◌}
 use native.Mathlib.Omega.{arith}
 use lib.ListN.{length, length-set}
@@ -31,4 +31,4 @@ pub shape_of-words : goal.shape_of-words
 shape_of-words c = c.loop-i.invariant.long ∙ length-set c.args.words.now 0 c.args.group.count
 
 pub returns : goal.returns
-returns c = group_stored c.args.group c.args.words.now c.if-n-gt-GROUP_LIMIT.false c.loop-i.words c.loop-i.i c.if-words-n.false c.loop-i.invariant c.loop-i-test.false
+returns c = group_stored c.args.group c.args.words.now c.if-n-gt-GROUP_LIMIT.false c.loop-i.words c.loop-i.i c.if-words-n.false c.loop-i.invariant (omega arith)

@@ -17,24 +17,24 @@ returns-then-misused c =
       «record» = misuse_kept _ e f _ g.«record».now;
     }
 
-pub returns-in-Refused : goal.returns-in-Refused
+pub returns-in-Err : goal.returns-in-Err
 unfolding number_of_start work_after_start record_after_start
-returns-in-Refused c =
+returns-in-Err c =
     let g = c.args in
     let p = words_plan g.source_width g.source_height g.layout g.crop_x g.crop_y g.crop_width g.crop_height g.target_width g.target_height in
     let s = rw c.layout_of.ensures at c.start-answer.ensures in
     let e = c.misused.ensures in
     let f = c.if-misused.false in
-    let both = start_refused p g.work.now g.«record».now _ c.start-answer.result e f s.number s.work c.in-Refused.why c.number.result c.in-Refused.is c.number.ensures in
+    let both = start_refused p g.work.now g.«record».now _ c.start-answer.result e f s.number s.work c.in-Err.why c.number.result c.in-Err.is c.number.ensures in
     record { number = both.0; work = both.1.0; «record» = both.1.1 }
 
-pub returns-in-Fresh : goal.returns-in-Fresh
+pub returns-in-Ok : goal.returns-in-Ok
 unfolding number_of_start work_after_start record_after_start
-returns-in-Fresh c =
+returns-in-Ok c =
     let g = c.args in
     let p = words_plan g.source_width g.source_height g.layout g.crop_x g.crop_y g.crop_width g.crop_height g.target_width g.target_height in
     let s = rw c.layout_of.ensures at c.start-answer.ensures in
     let e = c.misused.ensures in
     let f = c.if-misused.false in
-    let both = start_fresh p g.work.now g.«record».now _ c.start-answer.result e f s.number s.work c.in-Fresh.job _ c.in-Fresh.is s.job c.store_job.ensures in
+    let both = start_fresh p g.work.now g.«record».now _ c.start-answer.result e f s.number s.work c.in-Ok.job _ c.in-Ok.is s.job c.store_job.ensures in
     record { number = both.0; work = both.1.0; «record» = both.1.1 }

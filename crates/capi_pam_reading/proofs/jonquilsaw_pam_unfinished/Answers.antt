@@ -11,5 +11,5 @@ returns-then-flag-lt1 c =
 pub returns : goal.returns
 returns c =
     let g = c.args in
-    let both = unfinished_told g.input.now g.flag.now c.if-flag-lt1.false c.pam_header-header.ensures.unfinished c.unfinished_word.ensures c.store.ensures in
+    let both = unfinished_told g.input.now g.flag.now c.if-flag-lt1.false c.pam_header.ensures.unfinished c.unfinished_word.ensures c.store.ensures in
     record { number = both.0; flag = both.1 }

@@ -8,16 +8,16 @@ returns-then-size-lt2 c =
     let both = read_misused g.input.now g.size.now c.if-size-lt2.true in
     record { number = both.0; size = both.1 }
 
-pub returns-in-Refused : goal.returns-in-Refused
-returns-in-Refused c =
+pub returns-in-Err : goal.returns-in-Err
+returns-in-Err c =
     let g = c.args in
-    let told = rw c.in-Refused.is at c.pam_size-answer.ensures in
-    let both = read_refused g.input.now g.size.now c.if-size-lt2.false c.in-Refused.why told.number c.number.ensures in
+    let told = c.in-Err.ensures in
+    let both = read_refused g.input.now g.size.now c.if-size-lt2.false c.in-Err.why told.number c.number.ensures in
     record { number = both.0; size = both.1 }
 
-pub returns-in-Size : goal.returns-in-Size
-returns-in-Size c =
+pub returns-in-Ok : goal.returns-in-Ok
+returns-in-Ok c =
     let g = c.args in
-    let told = rw c.in-Size.is at c.pam_size-answer.ensures in
-    let both = picture_read g.input.now g.size.now c.if-size-lt2.false c.in-Size.d told.number told.size c.store.ensures in
+    let told = c.in-Ok.ensures in
+    let both = picture_read g.input.now g.size.now c.if-size-lt2.false c.in-Ok.d told.number told.size c.store.ensures in
     record { number = both.0; size = both.1 }

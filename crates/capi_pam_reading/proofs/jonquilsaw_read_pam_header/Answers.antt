@@ -9,23 +9,23 @@ returns-then-answer-lt4 c =
     let both = header_misused g.input.now g.answer.now c.if-answer-lt4.true in
     record { number = both.0; answer = both.1 }
 
-pub returns-in-Refused : goal.returns-in-Refused
-returns-in-Refused c =
+pub returns-in-Err : goal.returns-in-Err
+returns-in-Err c =
     let g = c.args in
-    let told = rw c.in-Refused.is at c.pam_header-header.ensures in
-    let both = header_refused g.input.now g.answer.now c.if-answer-lt4.false c.in-Refused.why told.number c.number.ensures in
+    let told = c.in-Err.ensures in
+    let both = header_refused g.input.now g.answer.now c.if-answer-lt4.false c.in-Err.why told.number c.number.ensures in
     record { number = both.0; answer = both.1 }
 
-pub returns-in-Unfinished : goal.returns-in-Unfinished
-returns-in-Unfinished c =
+pub returns-in-Ok-None : goal.returns-in-Ok-None
+returns-in-Ok-None c =
     let g = c.args in
-    let told = rw c.in-Unfinished.is at c.pam_header-header.ensures in
-    let both = header_refused g.input.now g.answer.now c.if-answer-lt4.false PamMalformed told.number c.number-in-Unfinished.ensures in
+    let told = rw c.in-Ok-None.field-0-is at c.in-Ok-None.ensures in
+    let both = header_refused g.input.now g.answer.now c.if-answer-lt4.false PamMalformed told.number c.number-in-Ok-None.ensures in
     record { number = both.0; answer = both.1 }
 
-pub returns-in-Picture : goal.returns-in-Picture
-returns-in-Picture c =
+pub returns-in-Ok-Some : goal.returns-in-Ok-Some
+returns-in-Ok-Some c =
     let g = c.args in
-    let told = rw c.in-Picture.is at c.pam_header-header.ensures in
-    let both = header_read g.input.now g.answer.now c.if-answer-lt4.false c.in-Picture.size c.in-Picture.start told.number told.size told.start c.store.ensures in
+    let told = rw c.in-Ok-Some.field-0-is at c.in-Ok-Some.ensures in
+    let both = header_read g.input.now g.answer.now c.if-answer-lt4.false c.in-Ok-Some.picture.size c.in-Ok-Some.picture.start told.number told.size told.start c.store.ensures in
     record { number = both.0; answer = both.1 }

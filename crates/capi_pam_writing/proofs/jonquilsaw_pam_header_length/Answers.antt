@@ -14,21 +14,21 @@ returns-then-bytes-lt1 c =
 
 pub overflow_cast-head : goal.overflow_cast-head
 overflow_cast-head c =
-    let told = rw c.in-Bytes.is at c.pam_header_length-header.ensures in
-    omega (arith, header_most _ c.in-Bytes.k told.number told.bytes)
+    let told = c.in-Ok.ensures in
+    omega (arith, header_most _ c.in-Ok.k told.number told.bytes)
 
-pub returns-in-Refused : goal.returns-in-Refused
+pub returns-in-Err : goal.returns-in-Err
 unfolding bytes_after_pam_header_length
-returns-in-Refused c =
+returns-in-Err c =
     let g = c.args in
-    let told = rw c.in-Refused.is at c.pam_header_length-header.ensures in
-    let both = length_refused g.width g.height g.bytes.now _ c.if-bytes-lt1.false c.in-Refused.why told.number c.number.ensures in
+    let told = c.in-Err.ensures in
+    let both = length_refused g.width g.height g.bytes.now _ c.if-bytes-lt1.false c.in-Err.why told.number c.number.ensures in
     record { number = both.0; bytes = both.1 }
 
-pub returns-in-Bytes : goal.returns-in-Bytes
+pub returns-in-Ok : goal.returns-in-Ok
 unfolding bytes_after_pam_header_length
-returns-in-Bytes c =
+returns-in-Ok c =
     let g = c.args in
-    let told = rw c.in-Bytes.is at c.pam_header_length-header.ensures in
-    let both = length_stored g.width g.height g.bytes.now _ c.if-bytes-lt1.false c.in-Bytes.k told.number told.bytes c.store.ensures in
+    let told = c.in-Ok.ensures in
+    let both = length_stored g.width g.height g.bytes.now _ c.if-bytes-lt1.false c.in-Ok.k told.number told.bytes c.store.ensures in
     record { number = both.0; bytes = both.1 }

@@ -17,20 +17,20 @@ returns-then-size-lt2 c =
       size = misuse_kept _ refl f _ g.size.now;
     }
 
-pub returns-in-Refused : goal.returns-in-Refused
+pub returns-in-Err : goal.returns-in-Err
 unfolding number_of_scaled size_after_scaled
-returns-in-Refused c =
+returns-in-Err c =
     let g = c.args in
     let f = le-ltb (length g.size.now) 2 c.if-size-lt2.false in
     let s = c.scaled-answer in
-    let both = size_refused s.result _ _ _ (passed _ refl f) s.ensures.number c.in-Refused.why c.number.result g.size.now c.in-Refused.is c.number.ensures in
+    let both = size_refused s.result _ _ _ (passed _ refl f) s.ensures.number c.in-Err.why c.number.result g.size.now c.in-Err.is c.number.ensures in
     record { number = both.0; size = both.1 }
 
-pub returns-in-Size : goal.returns-in-Size
+pub returns-in-Ok : goal.returns-in-Ok
 unfolding number_of_scaled size_after_scaled
-returns-in-Size c =
+returns-in-Ok c =
     let g = c.args in
     let f = le-ltb (length g.size.now) 2 c.if-size-lt2.false in
     let s = c.scaled-answer in
-    let both = size_stored s.result _ _ _ (passed _ refl f) s.ensures.number c.in-Size.d _ g.size.now c.in-Size.is s.ensures.size c.store.ensures in
+    let both = size_stored s.result _ _ _ (passed _ refl f) s.ensures.number c.in-Ok.d _ g.size.now c.in-Ok.is s.ensures.size c.store.ensures in
     record { number = both.0; size = both.1 }

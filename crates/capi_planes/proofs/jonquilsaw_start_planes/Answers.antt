@@ -20,19 +20,19 @@ returns-then-cr-lt-RECORD_WORDS c =
     let both = cr_short g.source_width g.source_height g.target_width g.target_height g.luma_work.now g.cb_work.now g.cr_work.now g.luma.now g.cb.now g.cr.now c.if-luma-lt-RECORD_WORDS.false c.if-cb-lt-RECORD_WORDS.false c.if-cr-lt-RECORD_WORDS.true in
     record { number = both.0; luma_work = both.1.0; cb_work = both.1.1.0; cr_work = both.1.1.1.0; luma = both.1.1.1.1.0; cb = both.1.1.1.1.1.0; cr = both.1.1.1.1.1.1 }
 
-pub returns-in-Refused : goal.returns-in-Refused
-returns-in-Refused c =
+pub returns-in-Err : goal.returns-in-Err
+returns-in-Err c =
     let g = c.args in
     let both = planes_refused g.source_width g.source_height g.target_width g.target_height g.luma_work.now g.cb_work.now g.cr_work.now g.luma.now g.cb.now g.cr.now
     c.if-luma-lt-RECORD_WORDS.false c.if-cb-lt-RECORD_WORDS.false c.if-cr-lt-RECORD_WORDS.false c.start_planes-answer.result c.start_planes-answer.ensures.number _ _ _ c.start_planes-answer.ensures.luma c.start_planes-answer.ensures.cb c.start_planes-answer.ensures.cr
-    c.in-Refused.why c.number.result c.in-Refused.is c.number.ensures in
+    c.in-Err.why c.number.result c.in-Err.is c.number.ensures in
     record { number = both.0; luma_work = both.1.0; cb_work = both.1.1.0; cr_work = both.1.1.1.0; luma = both.1.1.1.1.0; cb = both.1.1.1.1.1.0; cr = both.1.1.1.1.1.1 }
 
-pub returns-in-Fresh : goal.returns-in-Fresh
-returns-in-Fresh c =
+pub returns-in-Ok : goal.returns-in-Ok
+returns-in-Ok c =
     let g = c.args in
-    let cb = c.store_job-in-Fresh.ensures in
+    let cb = c.store_job-in-Ok.ensures in
     let both = planes_fresh g.source_width g.source_height g.target_width g.target_height g.luma_work.now g.cb_work.now g.cr_work.now g.luma.now g.cb.now g.cr.now
     c.if-luma-lt-RECORD_WORDS.false c.if-cb-lt-RECORD_WORDS.false c.if-cr-lt-RECORD_WORDS.false c.start_planes-answer.result c.start_planes-answer.ensures.number _ _ _ c.start_planes-answer.ensures.luma c.start_planes-answer.ensures.cb c.start_planes-answer.ensures.cr
-    _ _ _ _ _ _ c.in-Fresh.is c.start_planes-answer.ensures.jobs.0 c.start_planes-answer.ensures.jobs.1 c.start_planes-answer.ensures.jobs.2 c.store_job.ensures cb c.store_job-in-Fresh-2.ensures in
+    c.in-Ok.planes _ _ _ c.in-Ok.is c.start_planes-answer.ensures.jobs c.store_job.ensures cb c.store_job-in-Ok-2.ensures in
     record { number = both.0; luma_work = both.1.0; cb_work = both.1.1.0; cr_work = both.1.1.1.0; luma = both.1.1.1.1.0; cb = both.1.1.1.1.1.0; cr = both.1.1.1.1.1.1 }

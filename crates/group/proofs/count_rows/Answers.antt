@@ -3,10 +3,8 @@ use mathlib.Core.Path.{◌≡◌, sym, ◌∙◌}
 use Rattle.group_rules.proofs.Going.{group_offer_goes}
 use Rattle.group_tests.proofs.Testing.{ready_here}
 use Rattle.group.proofs.Going.{legal_offer, most_some}
-use Prim.Native.Nat.{◌-◌}
 use native.Mathlib.Omega.{arith}
 use Rattle.group.proofs.Counted.{counting_first, counting_more, counting_ready, counting_full}
-use borrow.Author.Rules.{rules}
 use Rattle.group.proofs.count_rows.Goals as goal
 
 pub most_rows-most-requires : goal.most_rows-most-requires
@@ -16,11 +14,6 @@ pub loop-c-init : goal.loop-c-init
 loop-c-init c =
     let a = c.args in
     counting_first a.g a.n _ c.most_rows-most.ensures (omega (arith, c.most_rows-most.ensures, most_some _ _ _ (group_offer_goes _ _ _ c.requires)))
-
-pub overflow_add-j : goal.overflow_add-j
-overflow_add-j c =
-    let o = group_offer_goes _ _ _ c.requires in
-    omega (arith, c.most_rows-most.ensures, (o.group.member 0 o.group.some).rules.sizes.source_height.most)
 
 pub returns-then-some_ready : goal.returns-then-some_ready
 returns-then-some_ready c =
@@ -37,5 +30,6 @@ loop-c-preserved c =
 pub returns : goal.returns
 returns c =
     let a = c.args in
-    let e : c.loop-c.c ≡ c.most_rows-most.result = omega (arith, c.loop-c.invariant.upto) in
-    e ∙ counting_full a.g a.n _ c.most_rows-most.ensures (rw e at c.loop-c.invariant)
+    let most = c.most_rows-most.ensures in
+    let e : c.loop-c.c ≡ c.most_rows-most.result = omega (arith, most, most_some _ _ _ (group_offer_goes _ _ _ c.requires)) in
+    counting_full a.g a.n _ most (rw e at c.loop-c.invariant)

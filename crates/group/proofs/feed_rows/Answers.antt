@@ -1,12 +1,11 @@
 -- All jobs have been fed the rows so far. Assumes nothing.
 use mathlib.Core.Path.{◌≡◌}
-use Prim.Native.Nat.{◌-◌}
 use native.Mathlib.Omega.{arith}
 use Rattle.group.proofs.Feeding.{rows_first, row_lent, row_number, row_asks, rows_more}
 use Rattle.group.proofs.feed_rows.Goals as goal
 
 pub loop-r-init : goal.loop-r-init
-loop-r-init c = let a = c.args in rows_first a.g a.c a.rows.now a.work.now
+loop-r-init c = let a = c.args in rows_first a.g a.rows.now a.work.now
 
 pub overflow_mul-at : goal.overflow_mul-at
 overflow_mul-at c =
@@ -32,10 +31,7 @@ pub loop-r-preserved : goal.loop-r-preserved
 loop-r-preserved c =
     rows_more c.requires.0 c.requires.1 c.loop-r.invariant (omega arith) _ c.row_bytes-stride.ensures _ c.feed_row.auto.work c.feed_row.ensures
 
-pub shape_of-work : goal.shape_of-work
-shape_of-work c = c.loop-r.invariant.long
-
 pub returns : goal.returns
 returns c =
-    let e : c.loop-r.r ≡ c.args.c = omega (arith, c.loop-r.invariant.upto) in
+    let e : c.loop-r.r ≡ c.args.c = omega arith in
     rw e at c.loop-r.invariant.work_is

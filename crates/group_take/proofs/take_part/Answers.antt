@@ -22,19 +22,19 @@ bounds-g-k c =
 
 pub overflow_mul-end : goal.overflow_mul-end
 overflow_mul-end c =
-    omega (arith, take_small c.args.g c.args.k c.args.at (length c.args.out.now) c.args.work.now (group_take_goes _ _ _ _ c.requires.0) c.requires.1 _ c.row_bytes-half.ensures)
+    omega (arith, take_small c.args.g c.args.k c.args.at (length c.args.out.now) c.args.work.now (group_take_goes _ _ _ _ c.requires.0) c.requires.1 _ c.row_bytes.ensures)
 
 pub overflow_add-end : goal.overflow_add-end
 overflow_add-end c =
-    omega (arith, take_small c.args.g c.args.k c.args.at (length c.args.out.now) c.args.work.now (group_take_goes _ _ _ _ c.requires.0) c.requires.1 _ c.row_bytes-half.ensures)
+    omega (arith, take_small c.args.g c.args.k c.args.at (length c.args.out.now) c.args.work.now (group_take_goes _ _ _ _ c.requires.0) c.requires.1 _ c.row_bytes.ensures)
 
 pub offset_bounds-work-at : goal.offset_bounds-work-at
 offset_bounds-work-at c =
-    omega (arith, take_small c.args.g c.args.k c.args.at (length c.args.out.now) c.args.work.now (group_take_goes _ _ _ _ c.requires.0) c.requires.1 _ c.row_bytes-half.ensures)
+    omega (arith, take_small c.args.g c.args.k c.args.at (length c.args.out.now) c.args.work.now (group_take_goes _ _ _ _ c.requires.0) c.requires.1 _ c.row_bytes.ensures)
 
 pub slice_bounds-take-end : goal.slice_bounds-take-end
 slice_bounds-take-end c =
-    take_fits c.args.g c.args.k c.args.at (length c.args.out.now) c.args.work.now (group_take_goes _ _ _ _ c.requires.0) c.requires.1 _ c.row_bytes-half.ensures
+    take_fits c.args.g c.args.k c.args.at (length c.args.out.now) c.args.work.now (group_take_goes _ _ _ _ c.requires.0) c.requires.1 _ c.row_bytes.ensures
 
 pub offset_bounds-g-k-2 : goal.offset_bounds-g-k-2
 offset_bounds-g-k-2 c =
@@ -49,11 +49,11 @@ returns c =
     let a = c.args in
     let o = group_take_goes _ _ _ _ c.requires.0 in
     let at = c.requires.1 in
-    let half = c.row_bytes-half.ensures in
+    let half = c.row_bytes.ensures in
     let part = take_cut a.g a.k a.at (length a.out.now) a.work.now o at _ half in
-    let next = c.taken_job-next.ensures ∙ c.take-t.ensures.job ∙ ap (λ (z : List ℕ). job.take_job (job_at a.g.jobs a.k) (length a.out.now) z) part in
-    let row = c.take-t.ensures.out ∙ ap (λ (z : List ℕ). job.take_out (job_at a.g.jobs a.k) a.out.now z) part in
-    let left = c.take-t.ensures.work ∙ ap (λ (z : List ℕ). job.take_work (job_at a.g.jobs a.k) (length a.out.now) z) part in
+    let next = c.take-taken.ensures.job ∙ ap (λ (z : List ℕ). job.take_job (job_at a.g.jobs a.k) (length a.out.now) z) part in
+    let row = c.take-taken.ensures.out ∙ ap (λ (z : List ℕ). job.take_out (job_at a.g.jobs a.k) a.out.now z) part in
+    let left = c.take-taken.ensures.work ∙ ap (λ (z : List ℕ). job.take_work (job_at a.g.jobs a.k) (length a.out.now) z) part in
     record {
       group = ap (λ (z : Job). with_jobs a.g (set a.g.jobs a.k z)) next;
       out = row;

@@ -1,5 +1,4 @@
 -- Each return is the first cause whose test failed. Assumes nothing.
-use borrow.Author.Rules.{rules}
 use borrow.Author.Tests.{le-leb, lt-leb}
 use mathlib.Core.Path.{sym, ◌∙◌}
 use native.Mathlib.Omega.{arith}
@@ -37,10 +36,6 @@ returns-then-bytes-row_bytes-ne0 c =
     let a = c.args in
     let law = lawful_test a.g _ c.check_group.ensures c.if-not-check_group.false-raw in
     sym (first_at (group_offer_causes a.g a.bytes a.work) 1 (law, tt) (rows_ragged (plan_at a.g.jobs 0) a.bytes _ c.row_bytes.ensures c.if-bytes-eq0.false c.if-bytes-row_bytes-ne0.true))
-
-pub part_start-requires : goal.part_start-requires
-part_start-requires c =
-    (lawful_is c.args.g _ c.check_group.ensures c.if-not-check_group.false-raw, omega arith)
 
 pub returns-then-work-part_start : goal.returns-then-work-part_start
 unfolding group_offer_number

@@ -40,10 +40,6 @@ returns-then-bytes-row_bytes c =
     let both = turned OutputLength _ _ (first_at (group_take_causes a.g a.job a.bytes a.work) 2 (law, (named, tt)) (differ _ _ (λ e. c.if-bytes-row_bytes.true (e ∙ sym c.row_bytes.ensures)))) in
     record { number = both.0; place = both.1 }
 
-pub part_start-requires : goal.part_start-requires
-part_start-requires c =
-    (lawful_is c.args.g _ c.check_group.ensures c.if-not-check_group.false-raw, omega arith)
-
 pub returns-then-work-part_start : goal.returns-then-work-part_start
 unfolding group_take_number
 returns-then-work-part_start c =
@@ -62,12 +58,8 @@ returns-then-made-j c =
     let named = lt-leb _ _ c.if-g-job.false in
     let exact = same _ _ (c.if-bytes-row_bytes.false ∙ c.row_bytes.ensures) in
     let room = room_enough a.g a.work _ c.part_start.ensures c.if-work-part_start.false in
-    let both = turned NoneReady _ _ (first_at (group_take_causes a.g a.job a.bytes a.work) 4 (law, (named, (exact, (room, tt)))) (le-leb _ _ (rw c.rows_by-made.ensures at c.if-made-j.true))) in
+    let both = turned NoneReady _ _ (first_at (group_take_causes a.g a.job a.bytes a.work) 4 (law, (named, (exact, (room, tt)))) (le-leb _ _ (rw c.made.ensures at c.if-made-j.true))) in
     record { number = both.0; place = both.1 }
-
-pub part_start-requires-2 : goal.part_start-requires-2
-part_start-requires-2 c =
-    (lawful_is c.args.g _ c.check_group.ensures c.if-not-check_group.false-raw, omega (arith, c.if-g-job.false))
 
 pub returns : goal.returns
 unfolding group_take_number
@@ -77,6 +69,6 @@ returns c =
     let named = lt-leb _ _ c.if-g-job.false in
     let exact = same _ _ (c.if-bytes-row_bytes.false ∙ c.row_bytes.ensures) in
     let room = room_enough a.g a.work _ c.part_start.ensures c.if-work-part_start.false in
-    let there = lt-leb _ _ (rw c.rows_by-made.ensures at c.if-made-j.false) in
+    let there = lt-leb _ _ (rw c.made.ensures at c.if-made-j.false) in
     let both = went _ _ _ (first_none (group_take_causes a.g a.job a.bytes a.work) (law, (named, (exact, (room, (there, tt)))))) c.part_start-2.ensures in
     record { number = both.0; place = both.1 }

@@ -1,14 +1,10 @@
 -- `part_start`: the loop of `Summing`. Assumes nothing.
-use Prim.Native.Nat.{◌-◌}
 use native.Mathlib.Omega.{arith}
-use Rattle.group_tests.proofs.Summing.{summing_first, within, half_most, sum_most, summing_more, summed}
+use Rattle.group_tests.proofs.Summing.{summing_first, within, half_most, sum_most, summing_more}
 use Rattle.group_tests.proofs.part_start.Goals as goal
 
 pub loop-i-init : goal.loop-i-init
-loop-i-init c = summing_first c.args.g c.args.n
-
-pub offset_bounds-g-i : goal.offset_bounds-g-i
-offset_bounds-g-i c = omega (arith, within c.args.g c.args.n c.requires c.loop-i.i c.loop-i-test.true)
+loop-i-init c = summing_first c.args.g
 
 pub bounds-g-i : goal.bounds-g-i
 bounds-g-i c = omega (arith, within c.args.g c.args.n c.requires c.loop-i.i c.loop-i-test.true)
@@ -22,16 +18,7 @@ overflow_add-at c =
     let v = c.loop-i in
     omega (arith, sum_most c.args.g c.args.n c.requires v.i c.loop-i-test.true v.at v.invariant _ c.row_bytes.ensures)
 
-pub overflow_add-i : goal.overflow_add-i
-overflow_add-i c =
-    omega (arith, within c.args.g c.args.n c.requires c.loop-i.i c.loop-i-test.true)
-
 pub loop-i-preserved : goal.loop-i-preserved
 loop-i-preserved c =
     let v = c.loop-i in
     summing_more c.args.g c.args.n c.requires v.i c.loop-i-test.true v.at v.invariant _ c.row_bytes.ensures
-
-pub returns : goal.returns
-returns c =
-    let v = c.loop-i in
-    summed c.args.g c.args.n v.at v.i v.invariant c.loop-i-test.false

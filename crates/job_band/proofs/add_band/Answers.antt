@@ -1,5 +1,4 @@
 -- The loop keeps `Adding`: the rows from the present one to the last are summed. Then the last goes to the second half once more, if it is not the only one. Assumes nothing.
-use borrow.Author.Rules.{rules}
 use native.Mathlib.Omega.{arith}
 use Rattle.job_band.proofs.Testing.{band_went}
 use Rattle.job_band.proofs.Adding.{adding_first, some_rows, last_less, in_lent, row_asks, turn_lent, turn_range, turn, added_one, added_all}

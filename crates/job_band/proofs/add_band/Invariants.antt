@@ -4,6 +4,3 @@ use Rattle.job_band.proofs.add_band.Given as goal
 
 abbrev pub invariant-loop-i : goal.invariant-loop-i
 invariant-loop-i l = Adding l.j.plan l.rows l.initial.work l.n l.work l.i
-
-abbrev pub decreases-loop-i : goal.decreases-loop-i
-decreases-loop-i l = l.i

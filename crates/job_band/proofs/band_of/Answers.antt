@@ -17,7 +17,7 @@ returns-then-p c =
 pub returns-then-p-made : goal.returns-then-p-made
 returns-then-p-made c =
     let args = c.args in
-    let rows-by = c.rows_by-made in
+    let rows-by = c.made-made in
     let if3 = c.if-p-made in
     let j = args.j in
     sym (band_none j.plan j.accepted (none_left j.plan j.accepted _ rows-by.ensures if3.true))
@@ -25,7 +25,7 @@ returns-then-p-made c =
 pub overflow_sub-result : goal.overflow_sub-result
 overflow_sub-result c =
     let args = c.args in
-    let rows-by = c.rows_by-made in
+    let rows-by = c.made-made in
     let pre = c.requires in
     let if1 = c.if-j-p in
     let if2 = c.if-p in
@@ -37,7 +37,7 @@ overflow_sub-result c =
 pub overflow_cast-result : goal.overflow_cast-result
 overflow_cast-result c =
     let args = c.args in
-    let rows-by = c.rows_by-made in
+    let rows-by = c.made-made in
     let pre = c.requires in
     let if1 = c.if-j-p in
     let if2 = c.if-p in
@@ -49,7 +49,7 @@ overflow_cast-result c =
 pub overflow_sub-result-3 : goal.overflow_sub-result-3
 overflow_sub-result-3 c =
     let args = c.args in
-    let rows-by = c.rows_by-made in
+    let rows-by = c.made-made in
     let pre = c.requires in
     let if1 = c.if-j-p in
     let if2 = c.if-p in
@@ -61,7 +61,7 @@ overflow_sub-result-3 c =
 pub returns : goal.returns
 returns c =
     let args = c.args in
-    let rows-by = c.rows_by-made in
+    let rows-by = c.made-made in
     let pre = c.requires in
     let if1 = c.if-j-p in
     let if2 = c.if-p in

@@ -6,7 +6,6 @@ use Rattle.job.proofs.Views.{lawful_of_lem}
 use Rattle.job_rules.proofs.Testing.{unlawful, lawful_test}
 use Rattle.job_band.specs.Bands.{band_number}
 use Rattle.job_band.proofs.Testing.{band_tests, stretch_wrong, stretch_right, band_bytes, told_of_offer}
-use borrow.Author.Rules.{rules}
 use Rattle.job_band.proofs.check_band.Goals as goal
 
 pub returns-then-not-lawful : goal.returns-then-not-lawful

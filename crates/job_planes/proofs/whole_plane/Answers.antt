@@ -1,10 +1,7 @@
--- `whole_plane`: a plane of one lane with the full crop. Assumes nothing.
+-- `whole_plane`: the start of a plane with the whole source for its crop. Assumes nothing.
 use Rattle.job_planes.proofs.whole_plane.Goals as goal
 
 pub returns : goal.returns
 returns c =
-    record {
-      number = c.start_plane.ensures.number;
-      job = c.start_plane.ensures.job;
-      work = c.start_plane.ensures.work;
-    }
+    let started = rw c.new-crop.ensures at c.start_plane.ensures in
+    record { number = started.number; job = started.job; work = started.work }

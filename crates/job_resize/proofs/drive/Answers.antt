@@ -1,7 +1,6 @@
 -- The loop keeps the job under way and takes one row each turn. Assumes nothing.
 use Rattle.job_resize.proofs.Ending.{driven}
 use Rattle.job_resize.proofs.Turning.{asked_going, pixels_room, out_same, turn_room, turn_less, turn_going}
-use Prim.Native.Nat.{◌-◌}
 use Rattle.job_resize.proofs.drive.Goals as goal
 
 pub loop-job-init : goal.loop-job-init

@@ -1,6 +1,6 @@
 -- The next row is taken into its place of the output. Assumes nothing.
 use Prim.Native.Nat.{ℕ, ◌*◌}
-use mathlib.Core.Path.{ap, ◌∙◌}
+use mathlib.Core.Path.{ap}
 use native.Mathlib.Omega.{arith}
 use Rattle.job_resize.proofs.Turning.{emits, end_less_start}
 use Rattle.job_resize.proofs.emit.Goals as goal
@@ -19,5 +19,5 @@ returns c =
     let a = c.args in
     let taken = rw c.row_bytes-size.ensures at c.take.ensures in
     rw c.row_bytes-size.ensures
-    (let both = emits a.job a.out.now a.work.now _ (end_less_start _ _) (c.requires) _ (c.after_take.ensures ∙ taken.job) _ taken.out _ taken.work in
+    (let both = emits a.job a.out.now a.work.now _ (end_less_start _ _) (c.requires) _ taken.job _ taken.out _ taken.work in
     record { job = both.0; out = both.1.0; work = both.1.1 })

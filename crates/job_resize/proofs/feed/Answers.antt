@@ -1,6 +1,6 @@
 -- A job with a row ready is left; else all rows that remain are offered. Assumes nothing.
 use Prim.Native.Nat.{ℕ, ◌*◌}
-use mathlib.Core.Path.{ap, ◌∙◌}
+use mathlib.Core.Path.{ap}
 use native.Mathlib.Omega.{arith}
 use Rattle.job_resize.proofs.Turning.{feed_keeps, feed_offers, rest_all}
 use Rattle.job_resize.proofs.feed.Goals as goal
@@ -23,5 +23,5 @@ pub returns : goal.returns
 returns c =
     let a = c.args in
     let offered = rw c.row_bytes.ensures at c.offer.ensures in
-    let both = feed_offers a.job a.pixels.now a.work.now _ c.ready.ensures c.if-ready-ne0.false _ (rest_all _ a.pixels.now) _ (c.after_offer.ensures ∙ offered.job) _ offered.work in
+    let both = feed_offers a.job a.pixels.now a.work.now _ c.ready.ensures c.if-ready-ne0.false _ (rest_all _ a.pixels.now) _ offered.job _ offered.work in
     record { job = both.0; work = both.1 }

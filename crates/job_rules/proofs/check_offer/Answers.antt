@@ -3,7 +3,6 @@ use mathlib.Core.Path.{sym, ◌∙◌}
 use native.Mathlib.Nat.{mul-le-mul}
 use native.Mathlib.Omega.{arith}
 use borrow.Author.Tests.{not-false, le-leb, lt-leb}
-use borrow.Author.Rules.{rules}
 use Rattle.pixels.proofs.Causes.{first_at, first_none}
 use Rattle.job_rules.specs.Rules.{offer_causes, offer_number_of}
 use Rattle.job_rules.proofs.Testing.{unlawful, lawful_test, rows_empty, rows_ragged, rows_whole, made_above, made_reached}

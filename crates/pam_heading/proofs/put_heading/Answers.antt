@@ -1,24 +1,8 @@
 -- The pieces, one behind the other. Assumes nothing.
 use Rattle.pam_heading.proofs.Chain.{all_put}
-use Rattle.pam_decimal.proofs.Decimals.{some_digits}
 use Prim.Native.Nat.{◌+◌}
 use mathlib.Core.Path.{ap}
-use native.Mathlib.Omega.{arith}
 use Rattle.pam_heading.proofs.put_heading.Goals as goal
-
-pub overflow_add-a : goal.overflow_add-a
-overflow_add-a c = omega (arith, c.digits_of-a.ensures, (some_digits c.args.size.width).1)
-
-pub overflow_add-a-2 : goal.overflow_add-a-2
-overflow_add-a-2 c = omega (arith, c.digits_of-a.ensures, (some_digits c.args.size.width).1)
-
-pub overflow_add-b : goal.overflow_add-b
-overflow_add-b c =
-    omega (arith, c.digits_of-a.ensures, (some_digits c.args.size.width).1)
-
-pub overflow_add-b-2 : goal.overflow_add-b-2
-overflow_add-b-2 c =
-    omega (arith, c.digits_of-a.ensures, c.digits_of.ensures, (some_digits c.args.size.width).1, (some_digits c.args.size.height).1)
 
 pub returns : goal.returns
 returns c =

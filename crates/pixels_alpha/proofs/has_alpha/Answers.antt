@@ -6,13 +6,12 @@ use Rattle.pixels_layout.specs.Layout.{alpha_lane}
 use Rattle.pixels.specs.Sizes.{pixel_lanes}
 use lib.ListN.{length, get_or}
 use native.Mathlib.Omega.{arith}
-use mathlib.Core.Bool.{false}
 use mathlib.Core.Path.{◌≡◌, sym}
-use Prim.Native.Nat.{◌+◌, ◌*◌, ◌-◌, ◌/◌}
+use Prim.Native.Nat.{◌+◌, ◌*◌, ◌/◌}
 use Rattle.pixels_alpha.proofs.has_alpha.Goals as goal
 
 pub loop-i-init : goal.loop-i-init
-loop-i-init c = (omega arith, clear_none _)
+loop-i-init c = clear_none _
 
 pub overflow_add-at : goal.overflow_add-at
 overflow_add-at c = omega (arith, c.alpha_byte_offset-a.ensures, place_lt c.args.layout alpha_lane (omega arith))
@@ -30,7 +29,7 @@ returns-then-bytes-at c =
     sym (rw o.ensures at e)
 
 pub loop-i-preserved : goal.loop-i-preserved
-loop-i-preserved c = (omega arith, clear_next _ c.loop-i.i c.loop-i.invariant.1 c.if-bytes-at.false)
+loop-i-preserved c = clear_next _ c.loop-i.i c.loop-i.invariant c.if-bytes-at.false
 
 pub returns : goal.returns
 unfolding has_alpha
@@ -38,4 +37,4 @@ returns c =
     let g = c.args in
     let o = c.alpha_byte_offset-a in
     let e : c.loop-i.i ≡ length g.bytes.now / pixel_lanes = omega arith in
-    sym (rw (e, o.ensures) at c.loop-i.invariant.1)
+    sym (rw (e, o.ensures) at c.loop-i.invariant)

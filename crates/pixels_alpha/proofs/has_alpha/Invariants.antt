@@ -8,7 +8,4 @@ use Prim.Native.Nat.{◌≤◌, ◌+◌, ◌*◌, ◌-◌}
 use Rattle.pixels_alpha.proofs.has_alpha.Given as goal
 
 abbrev pub invariant-loop-i : goal.invariant-loop-i
-invariant-loop-i l = (l.i ≤ l.n) × (some_clear (λ j. get_or l.bytes (pixel_lanes * j + l.a) 0) l.i ≡ false)
-
-abbrev pub decreases-loop-i : goal.decreases-loop-i
-decreases-loop-i l = l.n - l.i
+invariant-loop-i l = (some_clear (λ j. get_or l.bytes (pixel_lanes * j + l.a) 0) l.i ≡ false)

@@ -7,11 +7,11 @@ use Rattle.pixels.specs.Sizes.{pixel_lanes}
 use lib.ListN.{length, length-set}
 use native.Mathlib.Omega.{arith}
 use mathlib.Core.Path.{◌≡◌, refl}
-use Prim.Native.Nat.{◌<◌, ◌-◌}
+use Prim.Native.Nat.{◌<◌}
 use Rattle.pixels_alpha.proofs.put_alpha.Goals as goal
 
 pub loop-i-init : goal.loop-i-init
-loop-i-init c = (omega arith, refl, partly_first _ _ _)
+loop-i-init c = (refl, partly_first _ _ _)
 
 pub overflow_add-to : goal.overflow_add-to
 overflow_add-to c = omega (arith, c.alpha_byte_offset-alpha.ensures, place_lt c.args.layout alpha_lane (omega arith))
@@ -25,10 +25,10 @@ loop-i-preserved c =
     let o = c.alpha_byte_offset-alpha in
     let l = c.loop-i in
     let small : o.result < pixel_lanes = omega (arith, o.ensures, place_lt g.layout alpha_lane (omega arith)) in
-    (omega arith, simp length-set l.invariant.1, partly_turn o.result small g.pixels.now g.plane.now l.pixels l.i (omega arith) l.invariant.2)
+    (simp length-set l.invariant.0, partly_turn o.result small g.pixels.now g.plane.now l.pixels l.i (omega arith) l.invariant.1)
 
 pub shape_of-pixels : goal.shape_of-pixels
-shape_of-pixels c = c.loop-i.invariant.1
+shape_of-pixels c = c.loop-i.invariant.0
 
 pub returns : goal.returns
 unfolding with_alpha
@@ -37,5 +37,5 @@ returns c =
     let o = c.alpha_byte_offset-alpha in
     let small : o.result < pixel_lanes = omega (arith, o.ensures, place_lt g.layout alpha_lane (omega arith)) in
     let e : c.loop-i.i ≡ length g.plane.now = omega arith in
-    let d = partly_done o.result small g.pixels.now g.plane.now c.loop-i.pixels (c.requires) c.loop-i.invariant.1 (rw e at c.loop-i.invariant.2) in
+    let d = partly_done o.result small g.pixels.now g.plane.now c.loop-i.pixels (c.requires) c.loop-i.invariant.0 (rw e at c.loop-i.invariant.1) in
     rw o.ensures at d

@@ -7,7 +7,4 @@ use Prim.Native.Nat.{ℕ, ◌≤◌, ◌-◌}
 use Rattle.pixels_alpha.proofs.put_alpha.Given as goal
 
 abbrev pub invariant-loop-i : goal.invariant-loop-i
-invariant-loop-i l = (l.i ≤ length l.plane) × (length l.pixels ≡ length l.initial.pixels) × ((x : ℕ) → get_or l.pixels x 0 ≡ partly l.alpha l.initial.pixels l.plane l.i x)
-
-abbrev pub decreases-loop-i : goal.decreases-loop-i
-decreases-loop-i l = length l.plane - l.i
+invariant-loop-i l = (length l.pixels ≡ length l.initial.pixels) × ((x : ℕ) → get_or l.pixels x 0 ≡ partly l.alpha l.initial.pixels l.plane l.i x)

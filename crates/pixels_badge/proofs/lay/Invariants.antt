@@ -1,10 +1,8 @@
 -- Each turn lays the next block. Assumes nothing.
-use Prim.Native.Nat.{◌-◌}
+use Prim.Native.Nat.{◌*◌, min}
+use Rattle.pixels_badge.specs.Inner.{block_bytes}
 use Rattle.pixels_badge.proofs.LaidBlocks.{Covering}
 use Rattle.pixels_badge.proofs.lay.Given as goal
 
-abbrev pub invariant-loop-at : goal.invariant-loop-at
-invariant-loop-at l = Covering l.layout l.initial.pixels l.from l.badge l.pixels l.alphas l.colours l.at
-
-abbrev pub decreases-loop-at : goal.decreases-loop-at
-decreases-loop-at l = l.n - l.at
+abbrev pub invariant-loop-block : goal.invariant-loop-block
+invariant-loop-block l = Covering l.layout l.initial.pixels l.from l.badge l.pixels l.alphas l.colours (min l.n (block_bytes * l.block))

@@ -1,9 +1,7 @@
--- Two sides compared. Either test is the definition's. Assumes nothing.
-use Rattle.pixels.proofs.Truths.{differ, same}
+-- Two sizes compared, side by side. Assumes nothing.
+use mathlib.Core.Path.{◌∙◌}
+use Rattle.pixels_badge.proofs.Fitting.{sizes_differ}
 use Rattle.pixels_badge.proofs.other_size.Goals as goal
 
-pub returns-then-a-b : goal.returns-then-a-b
-returns-then-a-b c = let a = c.args in simp (differ a.a.width a.b.width c.if-a-b.true)
-
 pub returns : goal.returns
-returns c = let a = c.args in simp (same a.a.width a.b.width c.if-a-b.false)
+returns c = let a = c.args in c.ne.ensures ∙ sizes_differ a.a a.b

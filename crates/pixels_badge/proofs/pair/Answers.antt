@@ -1,7 +1,6 @@
 -- It joins the two bytes. Assumes nothing.
-use Rattle.pixels_badge.specs.Inner.{pair_at}
+use Rattle.pixels_badge.proofs.Blocks.{pair_is}
 use Rattle.pixels_badge.proofs.pair.Goals as goal
 
 pub returns : goal.returns
-unfolding pair_at
-returns c = c.two.ensures
+returns c = let a = c.args in pair_is a.bytes.now a.at c.from_le_bytes.ensures

@@ -1,4 +1,4 @@
--- Remainder and quotient are the two bytes. Assumes nothing.
+-- The two bytes of the number, one after the other. Assumes nothing.
 use native.Mathlib.Omega.{arith}
 use lib.ListN.{length-set}
 use Rattle.pixels_badge.proofs.Blocks.{pair_put}
@@ -8,4 +8,4 @@ pub bounds-bytes-at-2 : goal.bounds-bytes-at-2
 bounds-bytes-at-2 c = simp length-set (omega arith)
 
 pub returns : goal.returns
-returns c = pair_put c.args.bytes.now c.args.at c.args.v
+returns c = let a = c.args in pair_put a.bytes.now _ a.at a.v c.ranges.v.fits c.to_le_bytes.ensures

@@ -1,4 +1,4 @@
--- Each quotient and remainder is a byte of the word. Assumes nothing.
+-- The four bytes of the word, stored one after another. Assumes nothing.
 use native.Mathlib.Omega.{arith}
 use lib.ListN.{length-set}
 use Rattle.pixels_badge.proofs.Words.{word_put}
@@ -14,4 +14,4 @@ pub bounds-bytes-at-4 : goal.bounds-bytes-at-4
 bounds-bytes-at-4 c = simp length-set (omega arith)
 
 pub returns : goal.returns
-returns c = word_put c.args.bytes.now c.args.at c.args.w c.ranges.w.fits
+returns c = let a = c.args in word_put a.bytes.now _ a.at a.w c.to_le_bytes.ensures

@@ -1,4 +1,5 @@
 -- A refusal of the sizes is handed on with its number; else the two lengths decide, in their order. Assumes nothing.
+use Rattle.std.proofs.lemmas.Result.{err_from_is_err_and}
 use mathlib.Core.Path.{sym, ◌∙◌}
 use mathlib.Core.List.{[], List, ◌∷◌}
 use Rattle.pixels.specs.declared.Refusal.TheVariants.{PixelBufferMismatch, OutputLength}
@@ -18,18 +19,19 @@ lengths source crop n m =
     ∷ other_length m (picture_bytes pixel_lanes crop.width crop.height) OutputLength
     ∷ []
 
-pub returns-in-Refused : goal.returns-in-Refused
+pub returns-in_err-check_sizes : goal.returns-in_err-check_sizes
 unfolding crop_number sizes_number
-returns-in-Refused c =
+returns-in_err-check_sizes c =
+    let p = err_from_is_err_and c.from_residual.result c.from_residual.ensures.1 in
     let a = c.args in
-    let e = sym (rw c.in-Refused.is at c.check_sizes-checked.ensures) in
-    sym (first_stays c.in-Refused.why (sizes_causes a.source a.rect a.source) (lengths a.source a.rect a.n a.m) e)
+    let e = sym c.in_err-check_sizes.ensures in
+    rw (p.1, p.2) (sym (first_stays c.in_err-check_sizes.field-0.0 (sizes_causes a.source a.rect a.source) (lengths a.source a.rect a.n a.m) e))
 
 pub returns-then-wrong_length : goal.returns-then-wrong_length
 unfolding crop_number sizes_number
 returns-then-wrong_length c =
     let a = c.args in
-    let z = sym (rw c.in-Fit.is at c.check_sizes-checked.ensures) in
+    let z = sym c.in_ok-check_sizes.ensures in
     let l = lengths a.source a.rect a.n a.m in
     sym (first_past (sizes_causes a.source a.rect a.source) l z ∙ first_at l 0 tt (sym c.wrong_length.ensures ∙ c.if-wrong_length.true))
 
@@ -37,7 +39,7 @@ pub returns-then-wrong_length-2 : goal.returns-then-wrong_length-2
 unfolding crop_number sizes_number
 returns-then-wrong_length-2 c =
     let a = c.args in
-    let z = sym (rw c.in-Fit.is at c.check_sizes-checked.ensures) in
+    let z = sym c.in_ok-check_sizes.ensures in
     let l = lengths a.source a.rect a.n a.m in
     let IsFirst-passes = sym c.wrong_length.ensures ∙ c.if-wrong_length.false in
     sym (first_past (sizes_causes a.source a.rect a.source) l z ∙ first_at l 1 (IsFirst-passes, tt) (sym c.wrong_length-2.ensures ∙ c.if-wrong_length-2.true))
@@ -46,7 +48,7 @@ pub returns : goal.returns
 unfolding crop_number sizes_number
 returns c =
     let a = c.args in
-    let z = sym (rw c.in-Fit.is at c.check_sizes-checked.ensures) in
+    let z = sym c.in_ok-check_sizes.ensures in
     let l = lengths a.source a.rect a.n a.m in
     let IsFirst-passes = sym c.wrong_length.ensures ∙ c.if-wrong_length.false in
     sym (first_past (sizes_causes a.source a.rect a.source) l z ∙ first_none l (IsFirst-passes, (sym c.wrong_length-2.ensures ∙ c.if-wrong_length-2.false, tt)))

@@ -6,11 +6,11 @@ use lib.ListN.{length}
 use native.Mathlib.Nat.{mul-le-mul_left}
 use native.Mathlib.Omega.{arith}
 use mathlib.Core.Path.{◌≡◌, refl, ap, ◌∙◌}
-use Prim.Native.Nat.{◌≤◌, ◌+◌, ◌*◌, ◌-◌}
+use Prim.Native.Nat.{◌≤◌, ◌+◌, ◌*◌}
 use Rattle.pixels_crop.proofs.crop_into.Goals as goal
 
 pub loop-i-init : goal.loop-i-init
-loop-i-init c = let p = c.requires in (omega arith, refl, rows_none c.args.source c.args.rect c.args.pixels.now p.0 p.1 c.args.out.now)
+loop-i-init c = let p = c.requires in (refl, rows_none c.args.source c.args.rect c.args.pixels.now p.0 p.1 c.args.out.now)
 
 pub overflow_mul-at : goal.overflow_mul-at
 overflow_mul-at c =
@@ -57,14 +57,14 @@ loop-i-preserved c =
     let s : c.window.result.now ≡ window_of pixel_lanes (picture_row pixel_lanes a.pixels.now a.source.width row) a.rect.x a.rect.width =
     c.window.ensures ∙ ap (λ r. window_of pixel_lanes r a.rect.x a.rect.width) (row_part pixel_lanes a.pixels.now a.source.width row) in
     let copied = c.copy_at in
-    (omega arith, copied.auto.out ∙ l.invariant.1, copied.ensures ∙ rw s (rows_turn a.source a.rect a.pixels.now p.0 p.1 l.out a.out.now i (omega arith) l.invariant.2))
+    (copied.auto.out ∙ l.invariant.0, copied.ensures ∙ rw s (rows_turn a.source a.rect a.pixels.now p.0 p.1 l.out a.out.now i (omega arith) l.invariant.1))
 
 pub shape_of-out : goal.shape_of-out
-shape_of-out c = c.loop-i.invariant.1
+shape_of-out c = c.loop-i.invariant.0
 
 pub returns : goal.returns
 returns c =
     let a = c.args in
     let p = c.requires in
     let e : c.loop-i.i ≡ a.rect.height = omega arith in
-    rows_done a.source a.rect a.pixels.now p.0 p.1 c.loop-i.out a.out.now p.2 (rw e at c.loop-i.invariant.2)
+    rows_done a.source a.rect a.pixels.now p.0 p.1 c.loop-i.out a.out.now p.2 (rw e at c.loop-i.invariant.1)

@@ -4,11 +4,8 @@ use Rattle.pixels.specs.Sizes.{pixel_lanes, row_bytes}
 use lib.ListN.{length, drop}
 use mathlib.Core.List.{◌++◌}
 use mathlib.Core.Path.{◌≡◌}
-use Prim.Native.Nat.{◌≤◌, ◌+◌, ◌*◌, ◌-◌}
+use Prim.Native.Nat.{◌*◌}
 use Rattle.pixels_crop.proofs.crop_into.Given as goal
 
 abbrev pub invariant-loop-i : goal.invariant-loop-i
-invariant-loop-i l = (l.i ≤ l.h) × (length l.out ≡ length l.initial.out) × (l.out ≡ cropped_rows l.pixels l.source.width l.rect l.i ++ drop (row_bytes pixel_lanes l.rect.width * l.i) l.initial.out)
-
-abbrev pub decreases-loop-i : goal.decreases-loop-i
-decreases-loop-i l = l.h - l.i
+invariant-loop-i l = (length l.out ≡ length l.initial.out) × (l.out ≡ cropped_rows l.pixels l.source.width l.rect l.i ++ drop (row_bytes pixel_lanes l.rect.width * l.i) l.initial.out)

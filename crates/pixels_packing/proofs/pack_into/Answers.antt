@@ -6,11 +6,10 @@ use native.Mathlib.Omega.{arith}
 use mathlib.Core.Path.{◌≡◌, refl, ap, ◌∙◌}
 use lib.ListN.{length, get_or}
 use mathlib.Core.Path.{◌≡◌}
-use Prim.Native.Nat.{◌-◌}
 use Rattle.pixels_packing.proofs.pack_into.Goals as goal
 
 pub loop-i-init : goal.loop-i-init
-loop-i-init c = (omega arith, refl, none_filled _ _)
+loop-i-init c = (refl, none_filled _ _)
 
 pub put-requires : goal.put-requires
 put-requires c = (omega arith, ap length c.pack.ensures ∙ packed_length _ _)
@@ -19,11 +18,11 @@ pub loop-i-preserved : goal.loop-i-preserved
 loop-i-preserved c =
     let a = c.args in
     let l = c.loop-i in
-    (omega arith, c.put.auto.out ∙ l.invariant.1, c.put.ensures ∙ rw c.pack.ensures (packed_turn a.layout (λ j. get_or a.argb.now j 0) l.i l.out a.out.now l.invariant.2))
+    (c.put.auto.out ∙ l.invariant.0, c.put.ensures ∙ rw c.pack.ensures (packed_turn a.layout (λ j. get_or a.argb.now j 0) l.i l.out a.out.now l.invariant.1))
 
 pub shape_of-out : goal.shape_of-out
-shape_of-out c = c.loop-i.invariant.1
+shape_of-out c = c.loop-i.invariant.0
 
 pub returns : goal.returns
 unfolding packed_pixels
-returns c = let e : c.loop-i.i ≡ length c.args.argb.now = omega arith in all_filled _ _ _ c.args.out.now (c.requires) (rw e at c.loop-i.invariant.2)
+returns c = let e : c.loop-i.i ≡ length c.args.argb.now = omega arith in all_filled _ _ _ c.args.out.now (c.requires) (rw e at c.loop-i.invariant.1)

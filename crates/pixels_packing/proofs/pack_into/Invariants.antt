@@ -7,11 +7,8 @@ use Rattle.arithmetic.specs.Table.{tabulate}
 use lib.ListN.{length, get_or, drop}
 use mathlib.Core.List.{◌++◌}
 use mathlib.Core.Path.{◌≡◌}
-use Prim.Native.Nat.{◌≤◌, ◌*◌, ◌-◌}
+use Prim.Native.Nat.{◌*◌}
 use Rattle.pixels_packing.proofs.pack_into.Given as goal
 
 abbrev pub invariant-loop-i : goal.invariant-loop-i
-invariant-loop-i l = (l.i ≤ length l.argb) × (length l.out ≡ length l.initial.out) × (l.out ≡ tabulate (packed_byte l.layout (λ j. get_or l.argb j 0)) (pixel_lanes * l.i) ++ drop (pixel_lanes * l.i) l.initial.out)
-
-abbrev pub decreases-loop-i : goal.decreases-loop-i
-decreases-loop-i l = length l.argb - l.i
+invariant-loop-i l = (length l.out ≡ length l.initial.out) × (l.out ≡ tabulate (packed_byte l.layout (λ j. get_or l.argb j 0)) (pixel_lanes * l.i) ++ drop (pixel_lanes * l.i) l.initial.out)

@@ -1,5 +1,5 @@
 -- The invariant: the pixels passed, then the buffer as it was. Assumes nothing.
-use Prim.Native.Nat.{◌<◌, ◌-◌, ◌/◌}
+use Prim.Native.Nat.{◌<◌, ◌/◌}
 use Rattle.arithmetic.proofs.Stretches.{none_filled, all_filled}
 use Rattle.pixels_layout.proofs.Packing.{unpacked_at}
 use Rattle.pixels_layout.specs.Layout.{unpacked_pixels}
@@ -11,11 +11,10 @@ use mathlib.Core.Path.{◌≡◌, refl, ◌∙◌}
 use Rattle.pixels_layout.specs.Layout.{pixel_at}
 use lib.ListN.{length}
 use mathlib.Core.Path.{◌≡◌}
-use Prim.Native.Nat.{◌-◌}
 use Rattle.pixels_packing.proofs.unpack_into.Goals as goal
 
 pub loop-i-init : goal.loop-i-init
-loop-i-init c = (omega arith, refl, none_filled _ _)
+loop-i-init c = (refl, none_filled _ _)
 
 pub loop-i-preserved : goal.loop-i-preserved
 loop-i-preserved c =
@@ -23,11 +22,11 @@ loop-i-preserved c =
     let l = c.loop-i in
     let h : l.i < length a.out.now = omega arith in
     let e = c.unpack.ensures ∙ unpacked_at a.layout a.bytes.now l.i in
-    (omega arith, simp length-set l.invariant.1, rw (e, l.invariant.2, add-one) (set_tabulate (pixel_at a.layout a.bytes.now) l.i a.out.now h))
+    (simp length-set l.invariant.0, rw (e, l.invariant.1, add-one) (set_tabulate (pixel_at a.layout a.bytes.now) l.i a.out.now h))
 
 pub shape_of-out : goal.shape_of-out
-shape_of-out c = c.loop-i.invariant.1
+shape_of-out c = c.loop-i.invariant.0
 
 pub returns : goal.returns
 unfolding unpacked_pixels
-returns c = let e : c.loop-i.i ≡ length c.args.bytes.now / 4 = omega arith in all_filled _ _ _ c.args.out.now (c.requires) (rw e at c.loop-i.invariant.2)
+returns c = let e : c.loop-i.i ≡ length c.args.bytes.now / 4 = omega arith in all_filled _ _ _ c.args.out.now (c.requires) (rw e at c.loop-i.invariant.1)

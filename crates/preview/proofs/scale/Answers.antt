@@ -6,6 +6,6 @@ use Rattle.preview.proofs.scale.Goals as goal
 
 pub run_job-requires : goal.run_job-requires
 run_job-requires c =
-    let s = c.start-started in
-    let f = rows_fit (plan_of c.args.source Rgba8 c.args.crop c.args.target) _ s.result c.in-Fresh.job s.ensures.number s.ensures.job c.in-Fresh.is in
+    let s = c.start in
+    let f = rows_fit (plan_of c.args.source Rgba8 c.args.crop c.args.target) _ s.result c.in-Ok.job s.ensures.number s.ensures.job c.in-Ok.is in
     (f.source, f.target)

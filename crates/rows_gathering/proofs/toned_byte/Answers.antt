@@ -10,7 +10,7 @@ pub overflow_cast-result : goal.overflow_cast-result
 overflow_cast-result c =
     let a = c.args in
     let i = 4 * a.x + a.k in
-    let small = toned_byte (get_or a.row.now i 0) a.alpha a.own (omega (arith, c.shared_slice_known-1.given i)) (omega arith) in
+    let small = toned_byte (get_or a.row.now i 0) a.alpha a.own (omega (arith, c.type_inv.row i)) (omega arith) in
     omega (arith, c.tone.ensures, small)
 
 pub returns : goal.returns

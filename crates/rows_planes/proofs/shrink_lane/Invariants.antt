@@ -1,5 +1,5 @@
 -- `shrink_lane`: column after column of one lane; x pixels are used and reach `over` parts past the columns made. Assumes nothing.
-use Rattle.std.proofs.Common.{◌≡◌, ℕ, ◌+◌, ◌-◌, ◌*◌, ◌<◌, ◌≤◌, List}
+use Rattle.std.proofs.Common.{◌≡◌, ℕ, ◌+◌, ◌*◌, ◌<◌, ◌≤◌, List}
 use Rattle.arithmetic.proofs.Stores.{Stored}
 use Rattle.rows.specs.Column as column
 use Rattle.rows.specs.Lanes.{row_value}
@@ -16,6 +16,3 @@ pub record Inv (s : List ℕ) (n m : ℕ) (half₀ half : List ℕ) (x over carr
 
 abbrev pub invariant-loop-j : goal.invariant-loop-j
 invariant-loop-j l = Inv l.row l.n l.m l.initial.half l.half l.x l.over l.carry l.j
-
-abbrev pub decreases-loop-j : goal.decreases-loop-j
-decreases-loop-j l = l.m - l.j

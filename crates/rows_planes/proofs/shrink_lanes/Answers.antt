@@ -1,5 +1,6 @@
 -- `shrink_lanes`: column after column; `to` pixels are used and reach `over` parts past the columns made. Assumes nothing.
-use Rattle.std.proofs.Common.{◌≡◌, ℕ, suc, ◌+◌, ◌-◌, ◌*◌, ◌/◌, ◌%◌, ◌<◌, ◌≤◌, List, ◌++◌, get_or, drop, replicate, sym, refl, ap, ◌∙◌, mod-lt, mul-le-mul, mul-le-mul_left, mul-zero, add-one, arith, length-append}
+use Rattle.std.proofs.Common.{◌≡◌, ℕ, suc, ◌+◌, ◌-◌, ◌*◌, ◌/◌, ◌<◌, ◌≤◌, List, ◌++◌, get_or, drop, replicate, sym, refl, ap, ◌∙◌, mul-le-mul_left, lt_of_mul-lt-mul_right, add-mul, mod-lt, mul-zero, add-one, arith, length-append}
+use Rattle.std.proofs.lemmas.List.{length-replicate}
 use native.Mathlib.Nat.{div-add-mod}
 use lib.ListN.{get_or-replicate}
 use Rattle.arithmetic.specs.FixedPoint.{frac}
@@ -10,7 +11,7 @@ use Rattle.rows.specs.Column as column
 use Rattle.rows.proofs.Columns.{made_next}
 use Rattle.rows.proofs.Lanes.{row_value_lem}
 use Rattle.rows_widening.specs.Inner.{byte_of, set_all, RowAsks, row_written}
-use Rattle.rows.specs.Inner.NextColumn.{NextAsks, NextIs}
+use Rattle.rows.specs.Inner.NextColumn.{StandsIn, NextIs}
 use Rattle.rows_planes.specs.Inner.{column_value, column_carry, PutAsks}
 use Rattle.rows_widening.proofs.Storing.{stored_all}
 use Rattle.rows_widening.proofs.RowBytes.{byte_of_byte}
@@ -18,7 +19,7 @@ use Rattle.rows.proofs.NextColumn.{LaneMade, lane_made, column_inside}
 use Rattle.rows_planes.proofs.shrink_lanes.Invariants.{Inv}
 use Rattle.rows_planes.proofs.shrink_lanes.Goals as goal
 
-first : {s half₀ carry : List ℕ} {lanes n m : ℕ} → RowAsks s half₀ lanes n m → carry ≡ replicate 4 0 → Inv s lanes n m half₀ half₀ carry 0 0 0
+first : {s half₀ carry : List ℕ} {lanes n m : ℕ} → RowAsks s half₀ lanes n m → carry ≡ replicate lanes 0 → Inv s lanes n m half₀ half₀ carry 0 0 0
 unfolding column.carry
 first {carry = carry} {lanes = lanes} a z =
     record {
@@ -26,22 +27,18 @@ first {carry = carry} {lanes = lanes} a z =
       made = omega arith;
       over_small = a.m_pos;
       to_small = omega arith;
-      carries = λ k l. rw z (get_or-replicate 4 k 0 0 (omega (arith, a.lane_count.most)));
-      carry_room = rw z (omega (arith, a.lane_count.most));
+      carries = λ k l. rw z (get_or-replicate lanes k 0 0 l);
+      carry_room = rw z (omega (arith, length-replicate {A = ℕ} lanes 0));
       stored = place (none_stored _ a.room) (lanes * 0) (sym (mul-zero lanes));
     }
 
 module _ {s half₀ half carry : List ℕ} {lanes n m to over j : ℕ} (a : RowAsks s half₀ lanes n m) (shrinks : m ≤ n)
     (v : Inv s lanes n m half₀ half carry to over j) where
-  next_asks : (each rest : ℕ) → each ≡ n / m → rest ≡ n % m → NextAsks n m each rest to over
-  next_asks each rest e r = record {
-    parts = rw (e, r) (omega (arith, div-add-mod n m));
-    rest_small = rw r (mod-lt n a.m_pos);
-    over_small = v.over_small;
-    shrinks = shrinks;
-    n_small = a.n_small;
-    to_small = v.to_small;
-  }
+  stands : StandsIn n m to over
+  stands = record { over_small = v.over_small; shrinks = shrinks; n_small = a.n_small; to_small = v.to_small }
+
+  next_stands : {n' m' from to' over' : ℕ} → (n' ≡ n) × (m' ≡ m) → (StandsIn n' m' to over → NextIs n' m' to over from to' over') → NextIs n m to over from to' over'
+  next_stands e f = (rw (e.0, e.1) at f) stands
 
   module _ {from to' over' : ℕ} (w : NextIs n m to over from to' over') (below : j < m) where
     next_made : to' * m ≡ suc j * n + over'
@@ -50,7 +47,20 @@ module _ {s half₀ half carry : List ℕ} {lanes n m to over j : ℕ} (a : RowA
     inside : to' ≤ n
     inside = column_inside n m j to' over' below w.over_small next_made
 
-    put-asks : PutAsks s lanes m from to' over' carry half (lanes * j)
+    -- how many pixels the column has
+    fewest : from + n / m ≤ to'
+    fewest =
+        let below : (from + n / m) * m < (to' + 1) * m = rw (w.goes_on, add-mul to (n / m) m, add-mul to' 1 m) (omega (arith, w.made, v.over_small, div-add-mod n m)) in
+        let l : from + n / m < to' + 1 = lt_of_mul-lt-mul_right m below in
+        omega arith
+
+    most : to' ≤ from + n / m + 1
+    most =
+        let below : to' * m < (from + n / m + 2) * m = rw (w.goes_on, add-mul (to + n / m) 2 m, add-mul to (n / m) m) (omega (arith, w.made, w.over_small, div-add-mod n m, mod-lt n a.m_pos)) in
+        let l : to' < from + n / m + 2 = lt_of_mul-lt-mul_right m below in
+        omega arith
+
+    put-asks : PutAsks s lanes m (n / m) from to' over' carry half (lanes * j)
     put-asks =
         let le : j + 1 ≤ m = omega arith in
         record {
@@ -58,6 +68,8 @@ module _ {s half₀ half carry : List ℕ} {lanes n m to over j : ℕ} (a : RowA
           m_small = a.m_small;
           over_small = w.over_small;
           more = w.more;
+          fewest = fewest;
+          most = most;
           small = omega (arith, inside, a.n_small);
           whole = rw a.whole (mul-le-mul_left lanes inside);
           carry_room = v.carry_room;
@@ -101,45 +113,22 @@ module _ {s half₀ half carry : List ℕ} {lanes n m to over j : ℕ} (a : RowA
   done : m ≤ j → half ≡ row_written lanes n m s half₀
   done l = all_stored v.stored (mul-le-mul_left lanes l)
 
-pub overflow_cast-m : goal.overflow_cast-m
-overflow_cast-m c = omega (arith, c.requires.row_asks.m_small)
-
-pub nonzero_div-each : goal.nonzero_div-each
-nonzero_div-each c = c.requires.row_asks.m_pos
-
-pub nonzero_rem-rest : goal.nonzero_rem-rest
-nonzero_rem-rest c = c.requires.row_asks.m_pos
-
 pub loop-j-init : goal.loop-j-init
-loop-j-init c = first c.requires.row_asks refl
-
-pub next_column-c-requires : goal.next_column-c-requires
-next_column-c-requires c = next_asks c.requires.row_asks c.requires.m_le_n c.loop-j.invariant _ _ refl refl
-
-pub overflow_mul-lanes : goal.overflow_mul-lanes
-overflow_mul-lanes c =
-    let asks = c.requires.row_asks in
-    omega (arith, mul-le-mul {n₁ = c.args.lanes} {m₁ = c.loop-j.j} {n₂ = 4} {m₂ = 16384} asks.lane_count.most (omega (arith, asks.m_small, c.loop-j-test.true)))
+loop-j-init g c = first c.requires.row_asks refl
 
 pub put_column-requires : goal.put_column-requires
-put_column-requires c = put-asks c.requires.row_asks c.requires.m_le_n c.loop-j.invariant c.next_column-c.ensures c.loop-j-test.true
-
-pub overflow_add-j : goal.overflow_add-j
-overflow_add-j c = omega (arith, c.requires.row_asks.m_small, c.loop-j-test.true)
-
-pub loop-j-smaller : goal.loop-j-smaller
-loop-j-smaller c = omega (arith, c.loop-j-test.true)
+put_column-requires g c =
+    let asks = c.requires.row_asks in
+    let next = next_stands asks c.requires.m_le_n c.loop-j.invariant c.new-sharing.ensures c.next-c.ensures in
+    (omega (arith, asks.lane_count.most), put-asks asks c.requires.m_le_n c.loop-j.invariant next c.loop-j-test.true)
 
 pub loop-j-preserved : goal.loop-j-preserved
-loop-j-preserved c =
+loop-j-preserved g c =
     let asks = c.requires.row_asks in
     let by_width = c.requires.m_le_n in
     let inv = c.loop-j.invariant in
     let more = c.loop-j-test.true in
-    turn asks by_width inv c.next_column-c.ensures more _ c.frac-scale.ensures _ _ c.put_column.ensures.half c.put_column.ensures.carry
-
-pub shape_of-half : goal.shape_of-half
-shape_of-half c = same c.loop-j.invariant.stored
+    turn asks by_width inv (next_stands asks by_width inv c.new-sharing.ensures c.next-c.ensures) more _ c.frac-scale.ensures _ _ c.put_column.ensures.half c.put_column.ensures.carry
 
 pub returns : goal.returns
-returns c = done c.requires.row_asks c.requires.m_le_n c.loop-j.invariant c.loop-j-test.false
+returns g c = done c.requires.row_asks c.requires.m_le_n c.loop-j.invariant c.loop-j-test.false

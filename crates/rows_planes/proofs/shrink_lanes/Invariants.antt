@@ -1,5 +1,5 @@
 -- `shrink_lanes`: column after column; `to` pixels are used and reach `over` parts past the columns made. Assumes nothing.
-use Rattle.std.proofs.Common.{◌≡◌, ℕ, ◌+◌, ◌-◌, ◌*◌, ◌<◌, ◌≤◌, List, length, get_or}
+use Rattle.std.proofs.Common.{◌≡◌, ℕ, ◌+◌, ◌*◌, ◌<◌, ◌≤◌, List, length, get_or}
 use Rattle.arithmetic.proofs.Stores.{Stored}
 use Rattle.rows.specs.Column as column
 use Rattle.rows.specs.Lanes.{row_value}
@@ -16,7 +16,4 @@ pub record Inv (s : List ℕ) (lanes n m : ℕ) (half₀ half carry : List ℕ) 
   pub stored : Stored (row_value lanes (byte_of lanes s) n m) half₀ half (lanes * m) (lanes * j)
 
 abbrev pub invariant-loop-j : goal.invariant-loop-j
-invariant-loop-j l = Inv l.row l.lanes l.n l.m l.initial.half l.half l.carry l.c.to l.c.over l.j
-
-abbrev pub decreases-loop-j : goal.decreases-loop-j
-decreases-loop-j l = l.m - l.j
+invariant-loop-j g l = Inv l.row g.row.LANES l.n l.m l.initial.half l.half l.carry l.c.to l.c.over l.j

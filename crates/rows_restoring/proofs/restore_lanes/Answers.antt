@@ -14,7 +14,7 @@ returns-then-not-some_clear c =
     let none = sym (not-true _ c.if-not-some_clear.true-raw) ∙ found.ensures in
     record {
       flag = none;
-      out = opaque_row a.out.now a.m small c.requires (sym none);
+      out = opaque_row a.out.now small (sym none);
     }
 
 pub returns : goal.returns

@@ -3,4 +3,4 @@ use Rattle.rows_restoring.proofs.RestoredPixels.{reversed_word}
 use Rattle.rows_restoring.proofs.reversed.Goals as goal
 
 pub returns : goal.returns
-returns c = reversed_word c.args.argb c.ranges.argb.fits
+returns c = reversed_word c.args.argb c.swap_bytes.ensures

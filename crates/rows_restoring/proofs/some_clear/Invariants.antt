@@ -1,10 +1,6 @@
 -- `some_clear` meets its contract: each turn ands one more pixel, and the high byte of all is 255 exactly if every alpha so far is. Assumes nothing.
-use Prim.Native.Nat.{◌-◌, ◌≤◌}
 use Rattle.rows_restoring.proofs.OpaqueRows.{Anded}
 use Rattle.rows_restoring.proofs.some_clear.Given as goal
 
 abbrev pub invariant-loop-j : goal.invariant-loop-j
-invariant-loop-j l = (l.j ≤ l.m) × Anded l.out l.all l.j
-
-abbrev pub decreases-loop-j : goal.decreases-loop-j
-decreases-loop-j l = l.m - l.j
+invariant-loop-j l = Anded l.out l.all l.j

@@ -5,4 +5,4 @@ use Rattle.rows_restoring.proofs.word.Goals as goal
 pub returns : goal.returns
 returns c =
     let a = c.args in
-    word_is a.out.now a.at c.joined.ensures
+    word_is a.out.now a.at c.from_le_bytes.ensures

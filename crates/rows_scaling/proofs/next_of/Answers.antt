@@ -1,9 +1,6 @@
 -- `next_of` meets its contract, which is the test. Assumes nothing.
-use Rattle.std.proofs.Common.{eq-eqb, ne_eqb}
+use Rattle.std.proofs.Common.{eq-eqb}
 use Rattle.rows_scaling.proofs.next_of.Goals as goal
-
-pub returns-then-c-ne0 : goal.returns-then-c-ne0
-returns-then-c-ne0 c = simp (ne_eqb _ _ c.if-c-ne0.true)
 
 pub returns : goal.returns
 returns c = simp (eq-eqb _ _ c.if-c-ne0.false)

@@ -1,10 +1,7 @@
 -- `shrink_lanes` meets its contract: each turn stores f and the byte that it leaves; the ratio is below 2^31, so the byte is clamped by signed tests. Assumes nothing.
 use Rattle.rows_scaling.proofs.ShrinkLanes.{Shrunk}
-use Rattle.std.proofs.Common.{◌-◌}
+use Rattle.std.proofs.Common.{length}
 use Rattle.rows_scaling.proofs.shrink_lanes.Given as goal
 
 abbrev pub invariant-loop-k : goal.invariant-loop-k
-invariant-loop-k l = Shrunk l.step l.q l.w l.initial.work l.initial.out l.work l.out l.k
-
-abbrev pub decreases-loop-k : goal.decreases-loop-k
-decreases-loop-k l = l.w - l.k
+invariant-loop-k l = Shrunk l.step l.factor.by (length l.initial.out) l.initial.work l.initial.out l.work l.out l.k

@@ -1,10 +1,7 @@
 -- `take_lanes` meets its contract: each turn stores the low byte and a 0. Assumes nothing.
 use Rattle.rows_scaling.proofs.ShrinkLanes.{Taken}
-use Rattle.std.proofs.Common.{◌-◌}
+use Rattle.std.proofs.Common.{length}
 use Rattle.rows_scaling.proofs.take_lanes.Given as goal
 
 abbrev pub invariant-loop-k : goal.invariant-loop-k
-invariant-loop-k l = Taken l.w l.initial.work l.initial.out l.work l.out l.k
-
-abbrev pub decreases-loop-k : goal.decreases-loop-k
-decreases-loop-k l = l.w - l.k
+invariant-loop-k l = Taken (length l.initial.out) l.initial.work l.initial.out l.work l.out l.k

@@ -1,6 +1,6 @@
 -- What the private functions of src/lib.rt are asked and what they write, a row of w values at a time: the bytes of Output and WorkRows with the
 -- factors of the row already found. The public promises are those of Scaling. Assumes nothing.
-use Rattle.std.specs.Prelude.{◌≡◌, ℕ, ◌+◌, ◌-◌, ◌*◌, ◌/◌, ◌%◌, ◌^◌, ◌<◌, ◌≤◌, Bool, true, cond, List, length, ◌==◌, slice_index}
+use Rattle.std.specs.Prelude.{◌≡◌, ℕ, ◌+◌, ◌%◌, ◌^◌, ◌<◌, ◌≤◌, Bool, true, cond, List, length, ◌==◌, slice_index}
 use Rattle.arithmetic.specs.Word.{wrap_sub}
 use Rattle.arithmetic.specs.FixedPoint.{mult, floor, frac}
 use Rattle.rows.specs.Output.{clamp, mixed}
@@ -18,11 +18,10 @@ pub record RoomAsks (work out : List ℕ) (w : ℕ) : Type 0 where
   pub halves : w + w ≤ length work
   pub exact : length out ≡ w
 
--- the newer and the older half from places `new` and `old` on, w bytes of output
-pub record GrowAsks (work : List ℕ) (new old : ℕ) (out : List ℕ) (w : ℕ) : Type 0 where
-  pub newer : new + w ≤ length work
-  pub older : old + w ≤ length work
-  pub exact : length out ≡ w
+-- a byte of output for each value of the newer and the older half, from places `new` and `old` on
+pub record GrowAsks (work : List ℕ) (new old : ℕ) (out : List ℕ) : Type 0 where
+  pub newer : new + length out ≤ length work
+  pub older : old + length out ≤ length work
 
 -- where the signed tests are used, the number fits them
 abbrev pub Halved : Bool → ℕ → Type 0

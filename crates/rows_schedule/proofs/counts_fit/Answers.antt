@@ -34,11 +34,11 @@ pub returns-then-taken-rows_by : goal.returns-then-taken-rows_by
 returns-then-taken-rows_by c =
     let a = c.args in
     too_few a.top a.height a.target a.source a.accepted a.taken
-    c.if-source-accepted.false _ _ c.less_one-before.ensures c.rows_by.ensures c.if-taken-rows_by.true
+    c.if-source-accepted.false _ _ c.saturating_sub-before.ensures c.rows_by.ensures c.if-taken-rows_by.true
 
 pub returns : goal.returns
 returns c =
     let a = c.args in
     at_last a.top a.height a.target a.source a.accepted a.taken
-    c.if-source-accepted.false _ _ c.less_one-before.ensures c.rows_by.ensures
+    c.if-source-accepted.false _ _ c.saturating_sub-before.ensures c.rows_by.ensures
     c.if-taken-rows_by.false _ c.rows_by-2.ensures

@@ -3,7 +3,7 @@
 use Prim.Native.Nat.{ℕ, ◌+◌, ◌*◌, ◌-◌, ◌/◌, ◌^◌, ◌≤◌, ◌<◌}
 use mathlib.Core.Path.{◌≡◌, sym, ◌∙◌, ap}
 use native.Mathlib.Omega.{arith}
-use native.Mathlib.Nat.{div-le_self, div-zero}
+use native.Mathlib.Nat.{div-zero}
 use borrow.Author.Tests.{lt-leb, eq-eqb, ne_eqb}
 use Rattle.arithmetic.proofs.Products.{most}
 use Rattle.rows_schedule.specs.Schedule.{made}
@@ -40,9 +40,6 @@ below u g a b = most {x = u - 1} {y = g - 1} (omega arith) (omega arith)
 pub returns-then-height-eq0 : goal.returns-then-height-eq0
 returns-then-height-eq0 c = let a = c.args in sym (nothing a.height a.target a.rows c.if-height-eq0.true c.if-target-height.true)
 
-pub overflow_mul-result : goal.overflow_mul-result
-overflow_mul-result c = let f = c.ranges in omega (arith, most f.rows.fits f.target.fits)
-
 pub returns-then-target-height : goal.returns-then-target-height
 returns-then-target-height c = let a = c.args in sym (made_down a.height a.target a.rows c.if-target-height.true)
 
@@ -58,18 +55,6 @@ pub returns-then-height-eq0-2 : goal.returns-then-height-eq0-2
 returns-then-height-eq0-2 c =
     let a = c.args in
     sym (bare a.height a.target a.rows (omega arith) c.if-rows-eq0.false c.if-height-eq0-2.true)
-
-pub overflow_mul-result-2 : goal.overflow_mul-result-2
-overflow_mul-result-2 c =
-    let a = c.args in
-    let f = c.ranges in
-    omega (arith, below a.rows a.target f.rows.fits f.target.fits)
-
-pub overflow_add-result : goal.overflow_add-result
-overflow_add-result c =
-    let a = c.args in
-    let f = c.ranges in
-    omega (arith, div-le_self ((a.rows - 1) * (a.target - 1)) (a.height - 1), below a.rows a.target f.rows.fits f.target.fits)
 
 pub returns : goal.returns
 returns c =

@@ -34,45 +34,21 @@ ceil-most : (x d : ℕ) → ceil x d ≤ x + (d - 1)
 unfolding ceil
 ceil-most x d = div-le_self (x + (d - 1)) d
 
-pub overflow_mul-row : goal.overflow_mul-row
-overflow_mul-row c =
-    let a = c.args in
-    let f = c.ranges in
-    omega (arith, product a.row a.height f.row.fits f.height.fits)
-
-pub rounded_up-requires : goal.rounded_up-requires
-rounded_up-requires c =
-    let a = c.args in
-    let f = c.ranges in
-    product a.row a.height f.row.fits f.height.fits
-
 pub returns-then-target-height : goal.returns-then-target-height
 returns-then-target-height c =
     let a = c.args in
     c.rounded_up.ensures ∙ shrinks a.height a.target a.row c.if-target-height.true
 
-pub overflow_mul-row-2 : goal.overflow_mul-row-2
-overflow_mul-row-2 c =
-    let a = c.args in
-    let f = c.ranges in
-    omega (arith, most {x = a.row} {y = c.less_one.result} f.row.fits (omega (arith, c.less_one.ensures, f.height.fits)))
-
-pub rounded_up-requires-2 : goal.rounded_up-requires-2
-rounded_up-requires-2 c =
-    let a = c.args in
-    let f = c.ranges in
-    omega (arith, most {x = a.row} {y = c.less_one.result} f.row.fits (omega (arith, c.less_one.ensures, f.height.fits)))
-
 pub overflow_add-result : goal.overflow_add-result
 overflow_add-result c =
     let a = c.args in
     let f = c.ranges in
-    let less = c.less_one in
+    let less = c.saturating_sub in
     let of_row = most {x = a.row} {y = less.result} f.row.fits (omega (arith, less.ensures, f.height.fits)) in
-    omega (arith, c.rounded_up-2.ensures, ceil-most (a.row * less.result) c.less_one-2.result, of_row, c.less_one-2.ensures, f.target.fits)
+    omega (arith, c.rounded_up-2.ensures, ceil-most (a.row * less.result) c.saturating_sub-2.result, of_row, c.saturating_sub-2.ensures, f.target.fits)
 
 pub returns : goal.returns
 returns c =
     let a = c.args in
-    let made = rw (c.less_one.ensures, c.less_one-2.ensures) at c.rounded_up-2.ensures in
+    let made = rw (c.saturating_sub.ensures, c.saturating_sub-2.ensures) at c.rounded_up-2.ensures in
     ap (1 +◌) made ∙ sym (grows a.height a.target a.row c.if-target-height.false)

@@ -1,10 +1,6 @@
 -- `alphas`: the invariant is `Adding`. Assumes nothing.
 use Rattle.rows_summing.proofs.Opaque.{Adding}
-use Prim.Native.Nat.{◌-◌}
 use Rattle.rows_summing.proofs.alphas.Given as goal
 
 abbrev pub invariant-loop-k : goal.invariant-loop-k
 invariant-loop-k l = Adding l.sums l.place l.count l.total l.k
-
-abbrev pub decreases-loop-k : goal.decreases-loop-k
-decreases-loop-k l = l.count - l.k

@@ -1,10 +1,8 @@
 -- `sum_columns`: what stands after the block's sums stays; the bytes matted end the loop, and so do opaque ones as they stand. Assumes nothing.
-use Rattle.rows_summing.proofs.Opaque.{alpha_in_lem, first_inside, first_small, seen_small, tail_kept, toned_done, opaque_done, turn_less}
+use Rattle.rows_summing.proofs.Opaque.{alpha_in_lem, first_inside, first_small, seen_small, tail_kept, toned_done, opaque_done}
 use Rattle.rows_gathering.proofs.Blocks.{block_of}
-use borrow.Author.Tests.{not-true, not-false}
 use native.Mathlib.Omega.{arith}
 use lib.ListN.{length}
-use mathlib.Core.Path.{refl}
 use Rattle.rows_summing.proofs.sum_columns.Goals as goal
 
 pub overflow_mul-plain : goal.overflow_mul-plain
@@ -31,18 +29,11 @@ bounds-row-first c =
     let fits = block_of a.n a.m a.first (length a.row.now) c.requires in
     omega (arith, first_inside fits.0, fits.1, alpha_in_lem a.layout c.alpha_byte_offset-place.ensures)
 
-pub loop-plain-init : goal.loop-plain-init
-loop-plain-init c = refl
-
 pub returns-then-not-plain : goal.returns-then-not-plain
 returns-then-not-plain c =
     let a = c.args in
-    toned_done a.layout a.n a.m a.first a.row.now c.requires a.sums.now c.loop-plain.sums c.loop-plain.invariant (not-true _ c.if-not-plain.true-raw)
+    toned_done a.layout a.n a.m a.first a.row.now c.requires a.sums.now c.loop-plain.sums c.loop-plain.invariant c.if-not-plain.true
     c.gather_block-seen.ensures.sums
-
-pub alphas-requires : goal.alphas-requires
-alphas-requires c =
-    (omega (arith, c.block_columns-count.ensures), alpha_in_lem c.args.layout c.alpha_byte_offset-place.ensures)
 
 pub overflow_mul-seen : goal.overflow_mul-seen
 overflow_mul-seen c =
@@ -53,13 +44,8 @@ pub returns-then-alphas-seen : goal.returns-then-alphas-seen
 returns-then-alphas-seen c =
     let a = c.args in
     opaque_done a.layout a.n a.m a.first a.row.now c.requires a.sums.now c.loop-plain.sums c.loop-plain.invariant
-    (λ i. omega (arith, c.shared_slice_known-1.given i)) (not-false _ c.if-not-plain.false-raw) c.alpha_byte_offset-place.ensures
+    (λ i. omega (arith, c.type_inv.row i)) c.if-not-plain.false c.alpha_byte_offset-place.ensures
     (alpha_in_lem a.layout c.alpha_byte_offset-place.ensures) c.block_columns-count.ensures c.gather_block-seen.ensures.pixels c.alphas.ensures c.if-alphas-seen.true c.gather_block-seen.ensures.sums
-
-pub loop-plain-smaller : goal.loop-plain-smaller
-loop-plain-smaller c =
-    let plain = c.loop-plain.plain in
-    turn_less plain (not-false plain c.if-not-plain.false-raw)
 
 pub loop-plain-preserved : goal.loop-plain-preserved
 loop-plain-preserved c =

@@ -3,9 +3,7 @@
 use Prim.Native.Nat.{ℕ}
 use mathlib.Core.Path.{◌≡◌, sym, ◌∙◌}
 use mathlib.Core.Bool.{false, ◌||◌, or-true}
-use native.Mathlib.Omega.{arith}
 use borrow.Author.Tests.{lt-ltb, le-ltb}
-use Rattle.arithmetic.proofs.Products.{most}
 use Rattle.pixels.specs.Sizes.{bad_side}
 use Rattle.pixels.proofs.Causes.{first_at, first_none}
 use Rattle.pixels.proofs.Truths.{differ, same}
@@ -36,9 +34,6 @@ returns-then-bad_lanes c =
     let widths = both a.«crop_width» a.«target_width» (sym c.bad_side.ensures ∙ c.if-bad_side.false) (sym c.bad_side-2.ensures ∙ c.if-bad_side-2.false) in
     sym (first_at (import_causes a.lanes a.«crop_width» a.«target_width» a.bytes a.room) 1 (widths, tt) (sym c.bad_lanes.ensures ∙ c.if-bad_lanes.true))
 
-pub overflow_mul-lanes : goal.overflow_mul-lanes
-overflow_mul-lanes c = let a = c.args in omega (arith, most {x = a.lanes} {y = a.«crop_width»} (omega arith) (omega arith))
-
 pub returns-then-bytes-lanes : goal.returns-then-bytes-lanes
 unfolding import_number
 returns-then-bytes-lanes c =
@@ -46,9 +41,6 @@ returns-then-bytes-lanes c =
     let widths = both a.«crop_width» a.«target_width» (sym c.bad_side.ensures ∙ c.if-bad_side.false) (sym c.bad_side-2.ensures ∙ c.if-bad_side-2.false) in
     let lanes = sym c.bad_lanes.ensures ∙ c.if-bad_lanes.false in
     sym (first_at (import_causes a.lanes a.«crop_width» a.«target_width» a.bytes a.room) 2 (widths, (lanes, tt)) (differ _ _ c.if-bytes-lanes.true))
-
-pub overflow_mul-lanes-2 : goal.overflow_mul-lanes-2
-overflow_mul-lanes-2 c = let a = c.args in omega (arith, most {x = a.lanes} {y = a.«target_width»} (omega arith) (omega arith))
 
 pub returns-then-room-lanes : goal.returns-then-room-lanes
 unfolding import_number

@@ -5,11 +5,10 @@ use native.Mathlib.Omega.{arith}
 use native.Mathlib.Nat.{mul-le-mul_right}
 use borrow.Author.Tests.{lt-ltb, le-ltb}
 use Rattle.pixels.proofs.Fitting.{lanes_of_lem}
-use Rattle.pixels.proofs.Truths.{differ, same, not_false}
+use Rattle.pixels.proofs.Truths.{differ, same}
 use Rattle.pixels.proofs.Causes.{first_at}
 use Rattle.rows_tests.specs.Tests.{scale_causes, scale_number}
 use Rattle.rows_tests.proofs.Passing.{scale_passes}
-use Rattle.arithmetic.proofs.Products.{most}
 use Rattle.rows_tests.proofs.check_scale.Goals as goal
 
 pub returns-then-bad_size : goal.returns-then-bad_size
@@ -32,9 +31,6 @@ returns-then-bad_lanes c =
     let crop = sym c.bad_size.ensures ∙ c.if-bad_size.false in
     let target = sym c.bad_size-2.ensures ∙ c.if-bad_size-2.false in
     sym (first_at (scale_causes a.lanes a.crop a.target a.used a.row a.out a.work) 2 (crop, (target, tt)) (sym c.bad_lanes.ensures ∙ c.if-bad_lanes.true))
-
-pub overflow_mul-w : goal.overflow_mul-w
-overflow_mul-w c = let a = c.args in omega (arith, most {x = a.lanes} {y = a.target.width} (omega arith) (omega arith))
 
 pub overflow_mul-both : goal.overflow_mul-both
 overflow_mul-both c =
@@ -68,7 +64,7 @@ returns-then-not-due c =
     let target = sym c.bad_size-2.ensures ∙ c.if-bad_size-2.false in
     let lanes = sym c.bad_lanes.ensures ∙ c.if-bad_lanes.false in
     sym (first_at (scale_causes a.lanes a.crop a.target a.used a.row a.out a.work) 5
-    (crop, (target, (lanes, (same _ _ c.if-out-w.false, (le-ltb _ _ c.if-work-both.false, tt))))) (ap not (sym c.due.ensures) ∙ c.if-not-due.true-raw))
+    (crop, (target, (lanes, (same _ _ c.if-out-w.false, (le-ltb _ _ c.if-work-both.false, tt))))) (ap not (sym c.due.ensures ∙ c.if-not-due.true)))
 
 pub returns : goal.returns
 returns c =
@@ -80,5 +76,5 @@ returns c =
       lane_count = lanes_of_lem a.lanes (sym c.bad_lanes.ensures ∙ c.if-bad_lanes.false);
       out_exact = c.if-out-w.false;
       work_enough = c.if-work-both.false;
-      ready = sym c.due.ensures ∙ not_false _ c.if-not-due.false-raw;
+      ready = sym c.due.ensures ∙ c.if-not-due.false;
     }))

@@ -4,7 +4,7 @@ use mathlib.Core.Path.{sym, ap, ◌∙◌}
 use mathlib.Core.Bool.{not}
 use native.Mathlib.Omega.{arith}
 use borrow.Author.Tests.{eq-eqb, ne_eqb, lt-ltb, le-ltb}
-use Rattle.pixels.proofs.Truths.{differ, same, not_false}
+use Rattle.pixels.proofs.Truths.{differ, same}
 use Rattle.pixels.proofs.Causes.{first_at}
 use Rattle.rows_tests.specs.Tests.{values_causes, values_number}
 use Rattle.rows_tests.proofs.Passing.{values_pass}
@@ -41,7 +41,7 @@ returns-then-not-due c =
     let a = c.args in
     sym (first_at (values_causes a.s a.used a.row a.out a.work) 4
     (ne_eqb _ _ c.if-s-eq0.false, (ne_eqb _ _ c.if-s-eq0-2.false, (same _ _ c.if-out-s.false, (le-ltb a.work (a.s.w + a.s.w) (omega (arith, c.if-work-s.false)), tt))))
-    (ap not (sym c.due.ensures) ∙ c.if-not-due.true-raw))
+    (ap not (sym c.due.ensures ∙ c.if-not-due.true)))
 
 pub returns : goal.returns
 returns c =
@@ -54,5 +54,5 @@ returns c =
       h_some = omega (arith, h_some);
       out_exact = c.if-out-s.false;
       work_enough = omega (arith, c.if-work-s.false);
-      ready = sym c.due.ensures ∙ not_false _ c.if-not-due.false-raw;
+      ready = sym c.due.ensures ∙ c.if-not-due.false;
     }))

@@ -1,5 +1,5 @@
 -- `grow_lane`: column after column by differences, by the laws of LaneRows. Assumes nothing.
-use Rattle.std.proofs.Common.{◌-◌, arith}
+use Rattle.std.proofs.Common.{arith}
 use Rattle.rows_widening.proofs.LaneRows.{falling_first, falling_room, falling_on, falling_over, falling_same, falling_done}
 use Rattle.rows_widening.proofs.grow_lane.Goals as goal
 

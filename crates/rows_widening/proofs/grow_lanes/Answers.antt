@@ -1,5 +1,5 @@
 -- `grow_lanes`: the invariant is `Growing`. Assumes nothing.
-use Rattle.std.proofs.Common.{◌-◌, mul-le-mul, arith}
+use Rattle.std.proofs.Common.{mul-le-mul, arith}
 use Rattle.arithmetic.proofs.Stores.{same}
 use Rattle.rows_widening.proofs.GrowingRows.{growing_first, growing_stands, growing_right, growing_between, growing_turn, growing_done}
 use Rattle.rows_widening.proofs.grow_lanes.Goals as goal
@@ -35,12 +35,6 @@ overflow_mul-lanes c =
 
 pub put_between-requires : goal.put_between-requires
 put_between-requires c = growing_between c.requires.row_asks c.requires.n_lt_m c.loop-j.invariant c.loop-j-test.true c.next_stand-s.ensures
-
-pub overflow_add-j : goal.overflow_add-j
-overflow_add-j c = omega (arith, c.requires.row_asks.m_small, c.loop-j-test.true)
-
-pub loop-j-smaller : goal.loop-j-smaller
-loop-j-smaller c = omega (arith, c.loop-j-test.true)
 
 pub loop-j-preserved : goal.loop-j-preserved
 loop-j-preserved c =

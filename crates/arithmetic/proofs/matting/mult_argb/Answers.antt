@@ -4,5 +4,5 @@ use Rattle.arithmetic.proofs.matting.mult_argb.Goals as goal
 
 pub returns : goal.returns
 returns c =
-    argb_made c.args.argb c.args.inverse c.ranges.argb.fits
-    c.scale-blue.ensures c.scale-green.ensures c.scale-red.ensures
+    argb_made c.args.argb c.args.inverse _ c.ranges.argb.fits c.to_le_bytes.ensures
+    c.scale.ensures c.scale-2.ensures c.scale-3.ensures c.from_le_bytes.ensures

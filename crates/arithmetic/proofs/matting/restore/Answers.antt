@@ -18,5 +18,5 @@ pub returns : goal.returns
 returns c =
     let a = c.args in
     c.mult_alpha.ensures
-    ∙ ap (λ (x : ℕ). scale_colour x (get_or a.factors.now (a.alpha - 1) 0)) c.smaller.ensures
+    ∙ ap (λ (x : ℕ). scale_colour x (get_or a.factors.now (a.alpha - 1) 0)) c.min.ensures
     ∙ sym (lent_between a.factors.now a.colour a.alpha (omega arith) (omega arith))

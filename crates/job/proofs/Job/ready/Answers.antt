@@ -15,16 +15,16 @@ pub overflow_sub-result : goal.overflow_sub-result
 overflow_sub-result c =
     let j = c.args.self in
     let law = sym c.check.ensures ∙ not-false _ c.if-not-check.false-raw in
-    omega (arith, (lawful_of_lem j (ap not law)).high, c.rows_by-made.ensures)
+    omega (arith, (lawful_of_lem j (ap not law)).high, c.made-made.ensures)
 
 pub overflow_cast-result-2 : goal.overflow_cast-result-2
 overflow_cast-result-2 c =
     let j = c.args.self in
     let law = sym c.check.ensures ∙ not-false _ c.if-not-check.false-raw in
-    omega (arith, made_fits j (lawful_of_lem j (ap not law)), c.rows_by-made.ensures)
+    omega (arith, made_fits j (lawful_of_lem j (ap not law)), c.made-made.ensures)
 
 pub returns : goal.returns
 returns c =
     let j = c.args.self in
     let law = sym c.check.ensures ∙ not-false _ c.if-not-check.false-raw in
-    ready_some j _ law c.rows_by-made.ensures
+    ready_some j _ law c.made-made.ensures

@@ -5,9 +5,9 @@ use Rattle.preview.proofs.header.write_header.Goals as goal
 
 pub slice_bounds-text-end : goal.slice_bounds-text-end
 slice_bounds-text-end c =
-    header_fits c.args.size c.pam_header_length-length.result _ c.pam_header_length-length.ensures.bytes c.in-Bytes.is
+    header_fits c.args.size c.pam_header_length.result _ c.pam_header_length.ensures.bytes c.in-Ok.is
 
 pub slice_bounds-put_header-end : goal.slice_bounds-put_header-end
 slice_bounds-put_header-end c =
-    let h = header_fits c.args.size c.pam_header_length-length.result _ c.pam_header_length-length.ensures.bytes c.in-Bytes.is in
+    let h = header_fits c.args.size c.pam_header_length.result _ c.pam_header_length.ensures.bytes c.in-Ok.is in
     search (rules, length-take-le, h)

@@ -1,6 +1,5 @@
 -- `check_put`: the tests before a return passed and its own did not, so the number is its. Assumes nothing.
 use Rattle.std.proofs.Common.{sym, ◌∙◌, mul-le-mul_right, arith, lt-ltb}
-use Rattle.arithmetic.proofs.Products.{most}
 use Rattle.pixels.proofs.Causes.{first_at}
 use Rattle.pixels.proofs.Fitting.{lanes_of_lem}
 use Rattle.pixels.proofs.Truths.{differ, same}
@@ -29,9 +28,6 @@ returns-then-bad_lanes c =
     let target = sym c.bad_size-2.ensures ∙ c.if-bad_size-2.false in
     sym (first_at (put_causes a.lanes a.crop a.target a.bytes a.room) 2 (crop, (target, tt)) (sym c.bad_lanes.ensures ∙ c.if-bad_lanes.true))
 
-pub overflow_mul-lanes : goal.overflow_mul-lanes
-overflow_mul-lanes c = let a = c.args in omega (arith, most {x = a.lanes} {y = a.crop.width} (omega arith) (omega arith))
-
 pub returns-then-bytes-lanes : goal.returns-then-bytes-lanes
 unfolding put_number
 returns-then-bytes-lanes c =
@@ -40,9 +36,6 @@ returns-then-bytes-lanes c =
     let target = sym c.bad_size-2.ensures ∙ c.if-bad_size-2.false in
     let lanes = sym c.bad_lanes.ensures ∙ c.if-bad_lanes.false in
     sym (first_at (put_causes a.lanes a.crop a.target a.bytes a.room) 3 (crop, (target, (lanes, tt))) (differ _ _ c.if-bytes-lanes.true))
-
-pub overflow_mul-lanes-2 : goal.overflow_mul-lanes-2
-overflow_mul-lanes-2 c = let a = c.args in omega (arith, most {x = a.lanes} {y = a.target.width} (omega arith) (omega arith))
 
 pub overflow_mul-lanes-3 : goal.overflow_mul-lanes-3
 overflow_mul-lanes-3 c =

@@ -1,11 +1,7 @@
 -- `row_in`: the half is lent as a part of the work rows and comes back; then the halves are added or not. Assumes nothing.
 use Rattle.std.proofs.Common.{arith}
-use Rattle.arithmetic.proofs.Products.{most}
 use Rattle.rows_adding.proofs.Putting.{at_low, row_next, row_grows, row_adds}
 use Rattle.rows_adding.proofs.put.row_in.Goals as goal
-
-pub overflow_mul-w : goal.overflow_mul-w
-overflow_mul-w c = let a = c.args in omega (arith, most {x = c.lanes.result} {y = a.target.width} (omega (arith, c.lanes.type_inv)) (omega arith))
 
 pub offset_bounds-work-at : goal.offset_bounds-work-at
 offset_bounds-work-at c =

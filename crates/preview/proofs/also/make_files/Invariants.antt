@@ -1,6 +1,0 @@
--- The files left are the measure.
-use Rattle.std.proofs.Common.{◌-◌}
-use Rattle.preview.proofs.also.make_files.Given as goal
-
-abbrev pub decreases-loop-k : goal.decreases-loop-k
-decreases-loop-k l = 6 - l.k
