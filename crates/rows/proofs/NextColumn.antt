@@ -33,6 +33,9 @@ module _ (p : ℕ → ℕ) (byte : (i : ℕ) → p i ≤ 255) (n m j x next debt
 
 -- ---- where the next column stands; `to` pixels are used after j columns
 module _ {n m each rest to over : ℕ} (a : NextAsks n m each rest to over) where
+  pub stands_in : StandsIn n m to over
+  stands_in = record { over_small = a.over_small; shrinks = a.shrinks; n_small = a.n_small; to_small = a.to_small }
+
   pub each_small : each ≤ n
   each_small = omega (arith, a.parts, a.rest_small, mul-le-mul_left each (let pos : 1 ≤ m = omega (arith, a.rest_small) in pos))
 
