@@ -103,13 +103,11 @@ fn by_words(keyword: Keyword, a: &[u8], b: &[u8]) -> Said
 pub fn line_says(line: &[u8]) -> Said
     ensures { result ≡ held (says line.now) }
 {
-    if line.starts_with(b"#") {
+    // Kept: blanks alone are told before a word is looked for: a header may have many such lines.
+    if line.starts_with(b"#") || line.len() <= run_of(Class::Blank, line) {
         return Said::Nothing;
     }
     let (w, rest) = split_word(line);
-    if w.is_empty() {
-        return Said::Nothing;
-    }
     let (a, more) = split_word(rest);
     let (b, _) = split_word(more);
     by_words(keyword_of(w), a, b)
