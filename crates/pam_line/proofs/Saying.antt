@@ -115,6 +115,9 @@ module _ (l : List ℕ) (plain : is_comment l ≡ false) where
   by_words : says l ≡ words_say (words l)
   by_words = sym (comment_says l false plain)
 
+  pub says_blank : (w : List ℕ) → w ≡ word_of l → length w ≡ 0 → said.Nothing ≡ held (says l)
+  says_blank w e z = sym (ap held (by_words ∙ ap words_say (no_words l (sym (ap length e) ∙ z))))
+
   pub says_words :
       (w rest a more b : List ℕ) (k : Keyword) → w ≡ word_of l → (length w ≡ 0 → ⊥) → k ≡ keyword_of w → rest ≡ past_word l → a ≡ word_of rest → more ≡ past_word rest → b ≡ word_of more
       → said_of k a b ≡ held (says l)
@@ -130,10 +133,6 @@ module _ (l : List ℕ) (plain : is_comment l ≡ false) where
       first (x ∷ v) j n ej ws = ap (λ (i : Keyword). says_by i ws) (sym ej)
 
 -- ---- nothing but blanks
-blank_case : (l : List ℕ) (x : Bool) → is_comment l ≡ x → words l ≡ [] → said.Nothing ≡ held (says l)
-blank_case l true e n = says_comment l e
-blank_case l false e n = sym (ap held (by_words l e ∙ ap words_say n))
-
 module _ (l : List ℕ) (n : ℕ) (run : n ≡ run_length Blank l) where
   no_word : length l ≤ n → length (word_of l) ≡ 0
   unfolding word_of
@@ -141,8 +140,12 @@ module _ (l : List ℕ) (n : ℕ) (run : n ≡ run_length Blank l) where
       let rest = unblank l in
       omega (arith, h, run, length-take (run_length Solid rest) rest, length-drop (run_length Blank l) l)
 
-  pub says_blank : length l ≤ n → said.Nothing ≡ held (says l)
-  says_blank h = blank_case l (is_comment l) refl (no_words l (no_word h))
+  pub says_blanks : length l ≤ n → said.Nothing ≡ held (says l)
+  says_blanks h = by_comment (is_comment l) refl
+    where
+      by_comment : (x : Bool) → is_comment l ≡ x → said.Nothing ≡ held (says l)
+      by_comment true e = says_comment l e
+      by_comment false e = says_blank l e (word_of l) refl (no_word h)
 
   pub word_full : (w : List ℕ) → n < length l → w ≡ word_of l → length w ≡ 0 → ⊥
   word_full w h e z = omega (arith, h, run, length-drop (run_length Blank l) l, ap length (all_blank l (sym (ap length e) ∙ z)))
