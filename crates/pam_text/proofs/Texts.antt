@@ -40,7 +40,7 @@ drop_zero s = refl
 pub drop_step : (s : List ℕ) (i : ℕ) → i < length s → drop i s ≡ get_or s i 0 ∷ drop (i + 1) s
 drop_step s i h = rw add-one (drop-cons s i 0 h)
 
--- ---- a run read byte by byte: the whole run is what i bytes of it gave and the rest's. No loop here reads so; these are the laws of one that does
+-- ---- a run read byte by byte: the whole run is what i bytes of it gave and the rest's
 run_in : (k : Class) (b : ℕ) (s : List ℕ) → is_of k b ≡ true → run_length k (b ∷ s) ≡ suc (run_length k s)
 unfolding run_length
 run_in k b s e = rw e refl
@@ -70,7 +70,8 @@ module _ {k : Class} {s : List ℕ} {i : ℕ} (r : Run k s i) where
   pub run_done : length s ≤ i → i ≡ run_length k s
   run_done h = omega (arith, r.rest, ap (run_length k) (drop_of_length-le s {i = i} h), run_none k)
 
--- ---- two texts compared byte by byte: after i bytes that agree the texts are the same where their rests are. Laws of a loop, as above
+-- ---- two texts compared byte by byte: after i bytes that agree the texts are the same where their rests are. The library compares here; these are the
+-- laws of a loop that does
 pub record Alike (s t : List ℕ) (i : ℕ) : Type 0 where
   pub within : i ≤ length s
   pub other : i ≤ length t
