@@ -4,6 +4,7 @@ use mathlib.Core.Path.{◌≡◌, sym, ◌∙◌, ap, ap₂}
 use mathlib.Core.List.{List, ◌++◌, append-nil, append_assoc}
 use native.Mathlib.Omega.{arith}
 use lib.ListN.{length, take, drop, length-append, length-drop, drop_of_length-le}
+use borrow.Rule.Slice.PartMut.{put_mid}
 use lib.Seq.{take_at, drop_at, drop-drop, length-take-le}
 use borrow.Author.Tests.{le-leb, lt-leb}
 use Rattle.pam_put.specs.Put.{put_at}
@@ -21,6 +22,12 @@ module _ (out : List ℕ) (place : ℕ) (text : List ℕ) where
   put_length h =
       let front = length-take-le place out (omega (arith, h)) in
       ap length (put_fits h) ∙ simp (length-append, length-drop, front) (omega (arith, h))
+
+-- as the library has it where it copies: the part of the buffer written over
+module _ (out : List ℕ) (place : ℕ) (text : List ℕ) (k : ℕ) where
+  pub put_mid_is : place + length text ≤ length out → k ≡ length text → put_mid place k out text ≡ put_at out place text
+  put_mid_is h e =
+      ap (λ (l : List ℕ). take place out ++ (text ++ l)) (drop-drop k place out ∙ ap (λ (j : ℕ). drop (place + j) out) e) ∙ sym (put_fits out place text h)
 
 -- the next text, put where this one ends
 module _ (out : List ℕ) (place : ℕ) (text more : List ℕ) (h : place + length text + length more ≤ length out) where
