@@ -10,6 +10,7 @@ pub fn put(out: &mut [u8], place: usize, text: &[u8])
     ensures { out.new ≡ put_at out.old place text.now }
 {
     if place <= out.len() && text.len() <= out.len() - place {
+        // Kept: with copy_from_slice the archive for C would need memmove from outside.
         for i in 0..text.len() {
             out[place + i] = text[i];
         }
