@@ -107,13 +107,12 @@ fn number(rt: &impl Print, r: Result<(), Refusal>) -> io::Result<()> {
     line(rt, r.map_or_else(|why| why.number(), |()| 0))
 }
 
-// Each pixel's bytes.
+// Each pixel's bytes, in one write.
 fn each(rt: &impl Print, pixels: &[u8]) -> io::Result<()> {
     for px in pixels.chunks_exact(4) {
-        for byte in px {
-            print!(rt; "{byte:02x}")?;
+        if let [p, q, s, t] = *px {
+            println!(rt; "{p:02x}{q:02x}{s:02x}{t:02x}")?;
         }
-        println!(rt)?;
     }
     Ok(())
 }

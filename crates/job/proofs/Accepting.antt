@@ -43,7 +43,8 @@ fed_more : (p : Plan) (rows work : List ℕ) (k i : ℕ) → row_accepted p (pic
 unfolding fed
 fed_more p rows work k i = rw (add-one i) refl
 
-pub record Accepting (j : Job) (rows before : List ℕ) (work : List ℕ) (i : ℕ) : Type 0 where
+pub record Accepting (j : Job) (rows before : List ℕ) (most : ℕ) (work : List ℕ) (i : ℕ) : Type 0 where
+  pub left : i < most
   pub quiet : R j.plan (j.accepted + i) ≤ j.taken
   pub fed_is : work ≡ fed j.plan rows j.accepted i before
   pub long : length work ≡ length before
@@ -65,23 +66,20 @@ module _ (j : Job) (rows before : List ℕ) (most : ℕ) (goes : offer_number j 
       by zero e = absurd (let q : length rows ≡ stride * 0 = lent ∙ ap (λ (z : ℕ). stride * z) e in omega (arith, o.whole.some))
       by (suc x) e = omega arith
 
-  pub accepting_first : Accepting j rows before before 0
+  pub accepting_first : Accepting j rows before most before 0
   accepting_first =
       let e : j.accepted + 0 ≡ j.accepted = omega arith in
       record {
+        left = omega (arith, some_lent, o.remain);
         quiet = rw e o.none_ready;
         fed_is = fed_none j.plan rows before j.accepted;
         long = refl;
       }
 
-  -- all that there may be, none ready before
-  some_most : 0 < most
-  some_most = omega (arith, some_lent, o.remain)
-
-  module _ (work : List ℕ) (i : ℕ) (a : Accepting j rows before work i) (left : i < most) where
+  module _ (work : List ℕ) (i : ℕ) (a : Accepting j rows before most work i) where
     whole_row : stride * i + stride ≤ length rows
     whole_row =
-        let l : suc i ≤ lent_rows j.plan (length rows) = omega (arith, left) in
+        let l : suc i ≤ lent_rows j.plan (length rows) = omega (arith, a.left) in
         omega (arith, lent, mul-le-mul_left stride l)
 
     picture_row_long : length (picture_row (lanes_of j.plan) rows j.plan.source.width i) ≡ stride
@@ -113,7 +111,7 @@ module _ (j : Job) (rows before : List ℕ) (most : ℕ) (goes : offer_number j 
       next_fed next e = e ∙ row_in_lem j.plan row (j.accepted + i) work asks ∙ rw (row_is, a.fed_is) (fed_more j.plan rows before j.accepted i)
 
     pub in_range : j.accepted + i < 16384
-    in_range = omega (arith, left, o.rules.sizes.source_height.most)
+    in_range = omega (arith, a.left, o.rules.sizes.source_height.most)
 
     still : (x : ℕ) → x < i + 1 → R j.plan (j.accepted + x) ≤ j.taken
     still x l =
@@ -122,35 +120,25 @@ module _ (j : Job) (rows before : List ℕ) (most : ℕ) (goes : offer_number j 
         rows_le j.plan.crop.y j.plan.crop.height j.plan.target.height o.rules.sizes.crop_height (j.accepted + x) (i - x) in
         le_trans (rw e at up) a.quiet
 
+    -- the last that there may be
+    pub accepting_full : i + 1 ≡ most → i + 1 ≡ count j (length rows)
+    accepting_full e =
+        sym (counted_is (R j.plan) j.accepted j.taken o.none_ready (most_rows j (length rows)) (i + 1) (omega arith) still (inl (omega arith)))
+
     -- the first that makes an output row ready
     pub accepting_ready : j.taken < R j.plan (j.accepted + (i + 1)) → i + 1 ≡ count j (length rows)
     accepting_ready l =
-        sym (counted_is (R j.plan) j.accepted j.taken o.none_ready (most_rows j (length rows)) (i + 1) (omega (arith, left)) still (inr l))
+        sym (counted_is (R j.plan) j.accepted j.taken o.none_ready (most_rows j (length rows)) (i + 1) (omega (arith, a.left)) still (inr l))
 
     -- after a row has come in
     module _ (next : List ℕ) (e : next ≡ fed j.plan rows j.accepted (i + 1) before) where
       pub next_count : i + 1 ≡ count j (length rows) → next ≡ fed j.plan rows j.accepted (count j (length rows)) before
       next_count q = e ∙ ap (λ (x : ℕ). fed j.plan rows j.accepted x before) q
 
-      pub accepting_more : length next ≡ length work → R j.plan (j.accepted + (i + 1)) ≤ j.taken → Accepting j rows before next (i + 1)
-      accepting_more len l = record {
+      pub accepting_more : length next ≡ length work → (i + 1 ≡ most → ⊥) → R j.plan (j.accepted + (i + 1)) ≤ j.taken → Accepting j rows before most next (i + 1)
+      accepting_more len ne l = record {
+        left = omega (arith, a.left, ne);
         quiet = l;
         fed_is = e;
         long = len ∙ a.long;
       }
-
-  -- none of the rows that there may be made one ready
-  module _ (work : List ℕ) (i : ℕ) (a : Accepting j rows before work i) (all : i ≡ most) where
-    pub accepting_full : most ≡ count j (length rows)
-    accepting_full =
-        sym (counted_is (R j.plan) j.accepted j.taken o.none_ready (most_rows j (length rows)) most (omega arith) quiet_before (inl (omega arith)))
-      where
-        quiet_before : (x : ℕ) → x < most → R j.plan (j.accepted + x) ≤ j.taken
-        quiet_before x l =
-            let e : i - x + (j.accepted + x) ≡ j.accepted + i = omega arith in
-            let up : R j.plan (j.accepted + x) ≤ R j.plan (i - x + (j.accepted + x)) =
-            rows_le j.plan.crop.y j.plan.crop.height j.plan.target.height o.rules.sizes.crop_height (j.accepted + x) (i - x) in
-            le_trans (rw e at up) a.quiet
-
-    pub full_count : work ≡ fed j.plan rows j.accepted (count j (length rows)) before
-    full_count = a.fed_is ∙ ap (λ (x : ℕ). fed j.plan rows j.accepted x before) (all ∙ accepting_full)

@@ -46,7 +46,7 @@ fn most_rows(j: Job, n: usize) -> u32
 }
 
 // The rows of an offer that passed its tests, one after another (the Rust: Rescaler::import): "stops at the first row that makes an output row ready, at the last offered or at
-// the source's last".
+// the source's last". Kept: SCOPE names the form, a loop that yields the accepted count by break.
 fn accept(j: Job, rows: &[u8], work: &mut [u32]) -> u32
     requires { offer_number j (length rows.now) (length work.old) ≡ 0 }
     ensures rows { result ≡ count j (length rows.now) }
@@ -56,7 +56,8 @@ fn accept(j: Job, rows: &[u8], work: &mut [u32]) -> u32
     let form = row_form(p);
     let most = most_rows(j, rows.len());
     let stride = row_bytes(p, p.source.width);
-    for i in 0..most {
+    let mut i: u32 = 0;
+    let n = loop {
         let at = stride * i as usize;
         let _ = put_source_row(
             form,
@@ -66,12 +67,16 @@ fn accept(j: Job, rows: &[u8], work: &mut [u32]) -> u32
             &rows[at..at + stride],
             work,
         );
-        let made = p.made(j.accepted + (i + 1));
-        if (j.taken as u64) < made {
-            return i + 1;
+        i += 1;
+        if i == most {
+            break i;
         }
-    }
-    most
+        let made = p.made(j.accepted + i);
+        if (j.taken as u64) < made {
+            break i;
+        }
+    };
+    n
 }
 
 // ---- a row goes out

@@ -5,7 +5,7 @@ ghost use Rattle.std.specs.Prelude.{◌≡◌, false};
 ghost use Rattle.pam_header.specs.Header.{answer_number, answer_size, answer_start, answer_unfinished, header_number, header_size, header_start, header_unfinished};
 ghost use Rattle.pam_header.specs.Inner.{verdict_number, verdict_size, verdict_start};
 
-use pam_line::line_says;
+use pam_line::{Said, line_says};
 use pam_parts::{head_of, tail_of};
 use pam_seen::{Seen, State, Types, after_line};
 use pam_text::{Class, run_of, same};
@@ -75,8 +75,13 @@ pub fn pam_header(input: &[u8]) -> Result<Option<PamPicture>, Refusal>
         if tail.len() <= n {
             return Ok(None);
         }
-        t = after_line(t, line_says(head_of(tail, n)));
+        let said = line_says(head_of(tail, n));
         start = start + n + 1;
+        // Kept: after_line would leave t as it is, but copies it: a header may have many such lines.
+        if matches!(said, Said::Nothing) {
+            continue;
+        }
+        t = after_line(t, said);
         match t.state {
             State::GoesOn => {}
             State::Ended => return verdict(t, start),

@@ -1,21 +1,21 @@
 -- What the program makes of a line's first three words is what the line says. Assumes nothing.
-use Prim.Native.Nat.{ℕ, min}
+use Prim.Native.Nat.{ℕ, min, ◌≤◌, ◌<◌}
 use mathlib.Core.Path.{◌≡◌, refl, sym, ◌∙◌, ap, ap₂}
 use mathlib.Core.Bool.{Bool, true, false, cond, ◌&&◌}
 use mathlib.Core.List.{List, [], ◌∷◌}
 use native.Mathlib.Omega.{arith}
 use lib.Dec.{eqb, ltb, eqb-suc-zero}
-use lib.ListN.{length}
+use lib.ListN.{length, length-take, length-drop}
 use borrow.Author.Tests.{eq-eqb, ne_eqb, eqb-true, eqb-false, ltb-true, ltb-false}
 use Rattle.std.specs.List.{starts_with}
 use Rattle.std.proofs.Common.{Option, Some, None}
 use Rattle.std.specs.Option.{unwrap_or}
 use Rattle.preview_decimal.specs.Decimal.{digits, value, none, decimal, decimal_value}
-use Rattle.pam_text.specs.declared.Class.TheVariants.{Digit}
+use Rattle.pam_text.specs.declared.Class.TheVariants.{Blank, Solid, Digit}
 use Rattle.pam_text.specs.Text.{run_length, same_text}
 use Rattle.pam_text.proofs.Texts.{all_digits}
-use Rattle.pam_words.specs.Words.{closed, words, word_of, past_word}
-use Rattle.pam_words.proofs.WordByWord.{words_are, no_words}
+use Rattle.pam_words.specs.Words.{closed, words, unblank, word_of, past_word}
+use Rattle.pam_words.proofs.WordByWord.{words_are, all_blank, no_words}
 use Rattle.pam_line.specs.Line.{text_rgb_alpha, keyword_of, says_by, words_say, is_comment, says}
 use Rattle.pam_line.specs.Inner.{cut, held, number_said, type_said, said_of}
 use Rattle.pam_line.specs.declared.Key.{Key}
@@ -131,3 +131,21 @@ module _ (l : List ℕ) (plain : is_comment l ≡ false) where
       first : (v : List ℕ) (j : Keyword) → (length v ≡ 0 → ⊥) → j ≡ keyword_of v → (ws : List (List ℕ)) → words_say (closed v ws) ≡ says_by j ws
       first [] j n ej ws = absurd (n refl)
       first (x ∷ v) j n ej ws = ap (λ (i : Keyword). says_by i ws) (sym ej)
+
+-- ---- nothing but blanks
+module _ (l : List ℕ) (n : ℕ) (run : n ≡ run_length Blank l) where
+  no_word : length l ≤ n → length (word_of l) ≡ 0
+  unfolding word_of
+  no_word h =
+      let rest = unblank l in
+      omega (arith, h, run, length-take (run_length Solid rest) rest, length-drop (run_length Blank l) l)
+
+  pub says_blanks : length l ≤ n → said.Nothing ≡ held (says l)
+  says_blanks h = by_comment (is_comment l) refl
+    where
+      by_comment : (x : Bool) → is_comment l ≡ x → said.Nothing ≡ held (says l)
+      by_comment true e = says_comment l e
+      by_comment false e = says_blank l e (word_of l) refl (no_word h)
+
+  pub word_full : (w : List ℕ) → n < length l → w ≡ word_of l → length w ≡ 0 → ⊥
+  word_full w h e z = omega (arith, h, run, length-drop (run_length Blank l) l, ap length (all_blank l (sym (ap length e) ∙ z)))

@@ -99,17 +99,15 @@ fn by_words(keyword: Keyword, a: &[u8], b: &[u8]) -> Said
 // What a line says; a number of more than 32 bits is told as the largest of them.
 // Rules out: HEIGHT taken for WIDTH; a number left out, a letter in it, a word after it; a tuple type of no word; RGB_ALPHA and another word taken
 // for RGB_ALPHA alone; a word after ENDHDR; a comment that begins with %.
-#[tactic(auto, using(crate::proofs::Saying::hash_is, crate::proofs::Saying::says_comment, crate::proofs::Saying::says_blank))]
+#[tactic(auto, using(crate::proofs::Saying::hash_is, crate::proofs::Saying::says_comment, crate::proofs::Saying::says_blanks))]
 pub fn line_says(line: &[u8]) -> Said
     ensures { result ≡ held (says line.now) }
 {
-    if line.starts_with(b"#") {
+    // Kept: blanks alone are told before a word is looked for: a header may have many such lines.
+    if line.starts_with(b"#") || line.len() <= run_of(Class::Blank, line) {
         return Said::Nothing;
     }
     let (w, rest) = split_word(line);
-    if w.is_empty() {
-        return Said::Nothing;
-    }
     let (a, more) = split_word(rest);
     let (b, _) = split_word(more);
     by_words(keyword_of(w), a, b)

@@ -23,7 +23,7 @@ module _ (out : List ℕ) (place : ℕ) (text : List ℕ) where
       let front = length-take-le place out (omega (arith, h)) in
       ap length (put_fits h) ∙ simp (length-append, length-drop, front) (omega (arith, h))
 
--- as the library has it: the part of the buffer written over
+-- as the library has it where it copies: the part of the buffer written over
 module _ (out : List ℕ) (place : ℕ) (text : List ℕ) (k : ℕ) where
   pub put_mid_is : place + length text ≤ length out → k ≡ length text → put_mid place k out text ≡ put_at out place text
   put_mid_is h e =

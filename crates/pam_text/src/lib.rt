@@ -34,7 +34,13 @@ fn is_of(class: Class, b: u8) -> bool
 pub fn run_of(class: Class, s: &[u8]) -> usize
     ensures { result ≡ run_length class s.now }
 {
-    s.iter().take_while(|&&b| is_of(class, b)).count()
+    // Kept: take_while(..).count() took half as long again over blanks.
+    for i in 0..s.len() {
+        if !is_of(class, s[i]) {
+            return i;
+        }
+    }
+    s.len()
 }
 
 // Two texts are the same, byte by byte. Kept: a name for ==, whose one law stands here and not with each caller.

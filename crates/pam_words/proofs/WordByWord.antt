@@ -62,7 +62,7 @@ full_case b s false e ih z =
     let full = ap (λ (u : List ℕ). length (take (run_length Solid u) u)) (still b s e) ∙ some b s e in
     absurd (omega (arith, sym z ∙ full))
 
-all_blank : (s : List ℕ) → length (word_of s) ≡ 0 → unblank s ≡ []
+pub all_blank : (s : List ℕ) → length (word_of s) ≡ 0 → unblank s ≡ []
 unfolding run_length
 all_blank [] z = refl
 all_blank (b ∷ s) z = full_case b s (is_blank b) refl (all_blank s) z

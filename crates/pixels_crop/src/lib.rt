@@ -32,7 +32,10 @@ fn copy_at(out: &mut [u8], at: usize, src: &[u8])
     requires { at + length src.now ≤ length out.old }
     ensures { out.new ≡ take at out.old ++ (src.now ++ drop (at + length src.now) out.old) }
 {
-    out[at..at + src.len()].copy_from_slice(src);
+    // Kept, as in pam_put: with copy_from_slice the archive for C would need memmove from outside.
+    for i in 0..src.len() {
+        out[at + i] = src[i];
+    }
 }
 
 // Copies the rows of a crop that fits, each the window of its source row.

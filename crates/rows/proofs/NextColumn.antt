@@ -1,12 +1,12 @@
 -- One lane of a column, from what a loop knows where the column starts and ends: with bytes for pixels its value and its carry are those of the definitions.
 -- And where the next column stands. Assumes nothing.
-use Rattle.std.proofs.Common.{◌≡◌, ℕ, suc, ◌+◌, ◌-◌, ◌*◌, ◌%◌, ◌^◌, ◌<◌, ◌≤◌, sym, ap, ◌∙◌, mul-le-mul_right, lt_of_mul-lt-mul_right, mul-le-mul_left, arith}
+use Rattle.std.proofs.Common.{◌≡◌, ℕ, suc, ◌+◌, ◌-◌, ◌*◌, ◌/◌, ◌%◌, ◌^◌, ◌<◌, ◌≤◌, sym, ap, ◌∙◌, mul-le-mul_right, lt_of_mul-lt-mul_right, mul-le-mul_left, arith, lt-ltb, le-ltb}
 use Rattle.arithmetic.specs.Word.{wrap_add}
 use Rattle.arithmetic.specs.FixedPoint.{mult, frac}
 use Rattle.arithmetic.specs.Sum.{sum}
 use Rattle.rows.specs.Column as column
 use Rattle.rows.specs.Column.{Finished, value}
-use Rattle.rows.specs.Inner.NextColumn.{NextAsks, StandsIn, NextIs}
+use Rattle.rows.specs.Inner.NextColumn.{NextAsks, StandsIn, NextIs, next_to, next_over}
 use Rattle.rows.proofs.Columns.{value_shrink, value_of, carry_of, carry_byte, lane_column}
 
 -- what a column's end leads to
@@ -33,6 +33,9 @@ module _ (p : ℕ → ℕ) (byte : (i : ℕ) → p i ≤ 255) (n m j x next debt
 
 -- ---- where the next column stands; `to` pixels are used after j columns
 module _ {n m each rest to over : ℕ} (a : NextAsks n m each rest to over) where
+  pub stands_in : StandsIn n m to over
+  stands_in = record { over_small = a.over_small; shrinks = a.shrinks; n_small = a.n_small; to_small = a.to_small }
+
   pub each_small : each ≤ n
   each_small = omega (arith, a.parts, a.rest_small, mul-le-mul_left each (let pos : 1 ≤ m = omega (arith, a.rest_small) in pos))
 
@@ -68,6 +71,24 @@ module _ (n m each rest to over : ℕ) (parts : each * m + rest ≡ n) (small : 
 
   pub shared_even : rest ≤ over → NextIs n m to over to ((to + each) % 2 ^ 64) (over - rest)
   shared_even l = rw word_to (next_even shared_asks l)
+
+-- and for all numbers
+module _ (n m : ℕ) {each rest : ℕ} (each_is : each ≡ n / m) (rest_is : rest ≡ n % m) (to over : ℕ) where
+  pub to_longer : {to' : ℕ} → over < rest → to' ≡ (to + each + 1) % 2 ^ 64 → to' ≡ next_to n m to over
+  unfolding next_to
+  to_longer l e = e ∙ rw (each_is, lt-ltb over (n % m) (rw rest_is at l)) (omega arith)
+
+  pub to_even : {to' : ℕ} → rest ≤ over → to' ≡ (to + each) % 2 ^ 64 → to' ≡ next_to n m to over
+  unfolding next_to
+  to_even l e = e ∙ rw (each_is, le-ltb over (n % m) (rw rest_is at l)) (omega arith)
+
+  pub over_longer : {over' : ℕ} → over < rest → over' ≡ (over + m + 2 ^ 64 - rest) % 2 ^ 64 → over' ≡ next_over n m over
+  unfolding next_over
+  over_longer l e = e ∙ rw (← rest_is, lt-ltb over rest l) (omega arith)
+
+  pub over_even : {over' : ℕ} → rest ≤ over → over < 2 ^ 64 → over' ≡ over - rest → over' ≡ next_over n m over
+  unfolding next_over
+  over_even l small e = e ∙ rw (← rest_is, le-ltb over rest l) (omega arith)
 
 -- no column of m reaches past the row
 pub column_inside : (n m j next over : ℕ) → j < m → over < m → next * m ≡ suc j * n + over → next ≤ n

@@ -1,18 +1,18 @@
 -- Column after column of a block: `to` pixels are used and reach `over` parts past the columns summed, whose sums stand in the array. Assumes nothing.
-use Prim.Native.Nat.{ℕ, suc, ◌+◌, ◌-◌, ◌*◌, ◌/◌, ◌≤◌, ◌<◌}
+use Prim.Native.Nat.{ℕ, suc, ◌+◌, ◌-◌, ◌*◌, ◌/◌, ◌%◌, ◌≤◌, ◌<◌}
 use mathlib.Core.Path.{◌≡◌, sym, ap, ap₂, ◌∙◌}
 use mathlib.Core.List.{List}
 use lib.ListN.{length}
 use native.Mathlib.Omega.{arith}
-use native.Mathlib.Nat.{lt_of_mul-lt-mul_right, mul-le-mul, mul-le-mul_right}
+use native.Mathlib.Nat.{div-add-mod, mod-lt, lt_of_mul-lt-mul_right, mul-le-mul, mul-le-mul_right}
 use Rattle.arithmetic.specs.Quotient.{ceil}
 use Rattle.arithmetic.proofs.Stores.{Stored, none_stored, place, store_four}
 use Rattle.arithmetic.proofs.Quotients.{ceil_low, ceil_high}
 use Rattle.rows.specs.Column.{start}
 use Rattle.rows.specs.Inner.Import.{oct_at, Eight}
-use Rattle.rows.specs.Inner.NextColumn.{StandsIn, NextIs}
+use Rattle.rows.specs.Inner.NextColumn.{NextAsks, StandsIn, NextIs}
 use Rattle.rows.proofs.Columns.{start_unique}
-use Rattle.rows.proofs.NextColumn.{column_inside}
+use Rattle.rows.proofs.NextColumn.{stands_in, column_inside}
 use Rattle.rows.specs.declared.Oct.{Oct}
 use Rattle.rows_gathering.specs.Gathered.{pixels_of, every_second, block_columns, entry_of, summed}
 use Rattle.rows_gathering.specs.Inner.{ColumnAsks, stored8, BlockFits, BlockAsks, Begins}
@@ -61,10 +61,19 @@ module _ (p : ℕ → ℕ → ℕ) {s : List ℕ} {n m first : ℕ} (a : BlockAs
       }
 
   module _ {count to over k : ℕ} {sums₀ sums : List ℕ} (v : Gathering p n m first count sums₀ sums to over k) where
+    pub next_asks : NextAsks n m (n / m) (n % m) to over
+    next_asks = record {
+      parts = omega (arith, div-add-mod n m);
+      rest_small = mod-lt n (omega (arith, v.over_small));
+      over_small = v.over_small;
+      shrinks = a.fits.shrinks;
+      n_small = a.fits.n_small;
+      to_small = v.to_small;
+    }
+
     -- the next column, by what its call says of the sharing's own numbers
     pub next_of : {n' m' from to' over' : ℕ} → n' ≡ n → m' ≡ m → (StandsIn n' m' to over → NextIs n' m' to over from to' over') → NextIs n m to over from to' over'
-    next_of e f next =
-        rw (e, f) at next (record { over_small = v.over_small; shrinks = a.fits.shrinks; n_small = a.fits.n_small; to_small = v.to_small })
+    next_of e f next = rw (e, f) at next (stands_in next_asks)
 
     pub gathered_at : start n m (first + k) ≡ to
     gathered_at = start_unique n m (first + k) to over v.over_small v.made

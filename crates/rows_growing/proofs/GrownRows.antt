@@ -1,6 +1,6 @@
 -- A row whose width grows, column after column: acc parts of the left pixel are unused, and the next column uses step of them. Over any places p. Assumes nothing.
 use Prim.Native.Nat.{ℕ, suc, ◌+◌, ◌-◌, ◌*◌, ◌/◌, ◌%◌, ◌≤◌, ◌<◌}
-use mathlib.Core.Path.{◌≡◌, refl, ap, ap₂, ◌∙◌, subst}
+use mathlib.Core.Path.{◌≡◌, refl, sym, ap, ap₂, ◌∙◌, subst}
 use mathlib.Core.List.{List}
 use native.Mathlib.Omega.{arith}
 use native.Mathlib.Nat.{mul-le-mul_right, lt_of_mul-lt-mul_right, mod-eq_of_lt, mod-lt}
@@ -15,7 +15,7 @@ use Rattle.rows.specs.declared.Quad.{Quad}
 use Rattle.rows.specs.Column.{value}
 use Rattle.rows.specs.WorkRows.{written}
 use Rattle.rows.specs.Lanes.{row_value}
-use Rattle.rows.specs.Inner.Import.{at, Four, stored, lane_bytes, PixelAsks, written_row, RowAsks}
+use Rattle.rows.specs.Inner.Import.{at, Four, stored, lane_bytes, Within, PixelAsks, written_row, RowAsks}
 use Rattle.rows.proofs.Differences.{lane_enters, lane_goes, lane_value}
 use Rattle.rows.proofs.Lanes.{each, both, three, lane_byte_lem, row_values, put_four, written_length}
 use Rattle.rows.specs.Inner.Differences.{LaneStands}
@@ -63,6 +63,16 @@ module _ {s half : List ℕ} {p : Places} {n m : ℕ} (a : RowAsks s half n m p)
             (m - 1) 0 (at v k) (at fall k) (omega arith) g h)
             v-is fall_is;
       }
+
+-- the places that a layout told lie within a pixel, as those of its row do
+module _ (layout : PixelLayout) {s half : List ℕ} {p : Places} {n m : ℕ} (e : p ≡ places_of layout) (a : RowAsks s half n m (places_of layout)) where
+  pub places_in : Within p
+  places_in = rw e a.places
+
+-- what the loop writes, with the width as a count of the row's pixels
+pub grown_as : {layout told : PixelLayout} {s half : List ℕ} {n m : ℕ} → layout ≡ told → RowAsks s half n m (places_of layout) → (half' : List ℕ)
+    → half' ≡ written_row (places_of told) (length s / pixel_lanes) m s half → half' ≡ written_row (places_of layout) n m s half
+grown_as {s = s} {half = half} {m = m} is a half' w = w ∙ ap₂ (λ (t : PixelLayout) (k : ℕ). written_row (places_of t) k m s half) (sym is) (pixels_of a)
 
 -- the same with the parts named
 pub record Going (s half : List ℕ) (p : Places) (n m span step : ℕ) (right fall value : Quad) : Type 0 where

@@ -5,6 +5,7 @@ use mathlib.Core.Path.{◌≡◌, ap, ap₂, ◌∙◌}
 use Rattle.arithmetic.specs.Matte.{scale_colour, matte_factor}
 use Rattle.pixels_layout.specs.declared.PixelLayout.{PixelLayout}
 use Rattle.pixels_layout.specs.declared.PixelLayout.TheVariants.{Rgba8, Argb8, Bgra8}
+use Rattle.pixels_layout.specs.declared.Places.{Places}
 use Rattle.pixels_layout.specs.Layout.{places_of}
 use Rattle.rows.specs.declared.Own.{Own}
 use Rattle.rows.specs.Tones.{own_at, own_of, toned}
@@ -36,3 +37,14 @@ alpha_all layout {place} {o} e f = by layout (rw e at f.l0) (rw e at f.l3)
     by Rgba8 a d = omega (arith, a, d)
     by Argb8 a d = omega (arith, a, d)
     by Bgra8 a d = omega (arith, a, d)
+
+-- nothing for a colour, all bits for the alpha itself
+pub record Owns (none all : ℕ) : Type 0 where
+  pub none_is : none ≡ 0
+  pub all_is : all ≡ 255
+
+-- at the places of a layout
+pub owns_of : (layout : PixelLayout) {p : Places} {o : Own} → p ≡ places_of layout → Four (λ k. own_of o k ≡ own_at p.a k) → Owns o.b (o.a + o.d)
+owns_of layout {p} {o} e f =
+    let place : p.a ≡ (places_of layout).a = ap (λ (q : Places). q.a) e in
+    record { none_is = colour_none layout place f; all_is = alpha_all layout place f }

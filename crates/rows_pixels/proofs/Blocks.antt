@@ -1,10 +1,10 @@
 -- The columns of a row from the sums of their blocks. Assumes nothing.
 use Prim.Native.Nat.{ℕ, suc, ◌+◌, ◌-◌, ◌*◌, ◌/◌, ◌%◌, ◌^◌, ◌≤◌, ◌<◌, min}
-use mathlib.Core.Path.{◌≡◌, refl, sym, ap, ◌∙◌}
+use mathlib.Core.Path.{◌≡◌, refl, sym, ap, subst, ◌∙◌}
 use mathlib.Core.Bool.{true}
 use mathlib.Core.List.{List}
 use native.Mathlib.Omega.{arith}
-use native.Mathlib.Nat.{mul-zero, mul-le-mul_right, div-add-mod, mod-lt}
+use native.Mathlib.Nat.{mul-zero, mul-le-mul_right}
 use lib.ListN.{length, get_or}
 use Rattle.arithmetic.specs.FixedPoint.{mult, frac}
 use Rattle.arithmetic.specs.Sum.{sum}
@@ -30,7 +30,7 @@ use Rattle.arithmetic.proofs.Sums.{sum_most}
 use Rattle.rows.proofs.NextColumn.{next_even}
 use Rattle.rows.proofs.Tones.{toned_at_byte}
 use Rattle.rows_pixels.proofs.Bytes.{ended_lanes}
-use Rattle.rows_pixels.proofs.Standing.{Standing, standing_first, standing_end, inside, standing_more}
+use Rattle.rows_pixels.proofs.Standing.{Standing, standing_first, standing_next, standing_end, inside, standing_more}
 
 -- ---- the alpha of a layout has a place of its own
 pub apart_of : (layout : PixelLayout) (p : Places) → p ≡ places_of layout → Apart p
@@ -77,6 +77,10 @@ module _ (layout : PixelLayout) {p : Places} (e : p ≡ places_of layout) where
 
   pub place_is : {place : ℕ} → place ≡ (places_of layout).a → place ≡ p.a
   place_is is = is ∙ ap (λ (q : Places). q.a) (sym e)
+
+  -- what is ready for the places is so for the alpha's place of the layout; nothing needs it where a loop speaks of the layout itself
+  pub ready_in : {s sums : List ℕ} {n m : ℕ} (j : ℕ) → Ready s p.a n m j sums → Ready s (places_of layout).a n m j sums
+  ready_in {s} {sums} {n} {m} j r = subst (λ (q : Places). Ready s q.a n m j sums) e r
 
   pub filled_out : {s sums : List ℕ} {n m first : ℕ} → Filled s (places_of layout).a n m first sums → Filled s p.a n m first sums
   filled_out f = rw e f
@@ -132,7 +136,7 @@ module _ {s half₀ half : List ℕ} {n m : ℕ} {p : Places} {j : ℕ} (a : Row
     (v : Standing s half₀ n m p half nothing (n / m * j) 0 j) where
   whole_next : NextIs n m (n / m * j) 0 (n / m * j) (n / m * (j + 1)) 0
   whole_next =
-      let next : NextIs n m (n / m * j) 0 (n / m * j) (n / m * j + n / m) (0 - n % m) = next_even (record { parts = omega (arith, div-add-mod n m); rest_small = mod-lt n a.m_pos; over_small = v.over_small; shrinks = shrinks; n_small = a.n_small; to_small = v.x_small }) (omega arith) in
+      let next : NextIs n m (n / m * j) 0 (n / m * j) (n / m * j + n / m) (0 - n % m) = next_even (standing_next a shrinks v) (omega arith) in
       let to : n / m * j + n / m ≡ n / m * (j + 1) = omega arith in
       let none : 0 - n % m ≡ 0 = omega arith in
       rw (← to) (rw none at next)

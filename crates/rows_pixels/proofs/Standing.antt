@@ -1,9 +1,9 @@
 -- The columns of a row made one after another, bytes in their order and stored as lanes: `Standing` is the invariant of any loop over them. Assumes nothing.
-use Prim.Native.Nat.{ℕ, suc, ◌+◌, ◌-◌, ◌*◌, ◌≤◌, ◌<◌}
+use Prim.Native.Nat.{ℕ, suc, ◌+◌, ◌-◌, ◌*◌, ◌/◌, ◌%◌, ◌≤◌, ◌<◌}
 use mathlib.Core.Path.{◌≡◌, refl, sym, ap, ◌∙◌, fun_ext}
 use mathlib.Core.List.{List}
 use native.Mathlib.Omega.{arith}
-use native.Mathlib.Nat.{mul-le-mul_left}
+use native.Mathlib.Nat.{mul-le-mul_left, div-add-mod, mod-lt}
 use native.Mathlib.Numerals.{add-one}
 use lib.ListN.{length}
 use Rattle.arithmetic.specs.FixedPoint.{frac}
@@ -19,10 +19,10 @@ use Rattle.rows.specs.Lanes.{row_value}
 use Rattle.rows.specs.Tones.{toned_at}
 use Rattle.rows.specs.WorkRows.{written}
 use Rattle.rows.specs.Inner.Import.{at, Four, stored, lane_bytes, PixelAsks, Within, written_row, RowAsks}
-use Rattle.rows.specs.Inner.NextColumn.{StandsIn, NextIs}
+use Rattle.rows.specs.Inner.NextColumn.{NextAsks, StandsIn, NextIs}
 use Rattle.rows.proofs.Columns.{made_next}
 use Rattle.rows.proofs.Lanes.{each, both, four_at, row_values, written_length, put_four}
-use Rattle.rows.proofs.NextColumn.{LaneMade, lane_made, column_inside}
+use Rattle.rows.proofs.NextColumn.{LaneMade, lane_made, stands_in, column_inside}
 use Rattle.rows.proofs.Tones.{toned_at_byte, toned_colour, toned_alpha}
 use Rattle.rows_pixels.proofs.Bytes.{total_pixels}
 use Rattle.rows_pixels.specs.Inner.{Apart, in_lanes, TotalAsks, EndAsks, end_value, end_carry}
@@ -79,11 +79,21 @@ standing_first a z =
 
 module _ {s half₀ half : List ℕ} {n m : ℕ} {p : Places} {carry : Quad} {x over j : ℕ} (a : RowAsks s half₀ n m p) (shrinks : m ≤ n)
     (v : Standing s half₀ n m p half carry x over j) where
+  pub standing_next : NextAsks n m (n / m) (n % m) x over
+  standing_next =
+      record {
+        parts = omega (arith, div-add-mod n m);
+        rest_small = mod-lt n a.m_pos;
+        over_small = v.over_small;
+        shrinks = shrinks;
+        n_small = a.n_small;
+        to_small = v.x_small;
+      }
+
   -- the next column, by what its call says of the sharing's own numbers
-  pub standing_next : {n' m' f x' over' : ℕ} → n' ≡ n → m' ≡ m → (StandsIn n' m' x over → NextIs n' m' x over f x' over') → (f ≡ x) × NextIs n m x over x x' over'
-  standing_next {n'} {m'} {f} {x'} {over'} e g next =
-      let stands : StandsIn n m x over = record { over_small = v.over_small; shrinks = shrinks; n_small = a.n_small; to_small = v.x_small } in
-      let w : NextIs n m x over f x' over' = (rw (e, g) at next) stands in
+  pub next_stands : {n' m' f x' over' : ℕ} → n' ≡ n → m' ≡ m → (StandsIn n' m' x over → NextIs n' m' x over f x' over') → (f ≡ x) × NextIs n m x over x x' over'
+  next_stands {n'} {m'} {f} {x'} {over'} e g next =
+      let w : NextIs n m x over f x' over' = (rw (e, g) at next) (stands_in standing_next) in
       let more : x < x' = rw w.goes_on at w.more in
       (w.goes_on, record { goes_on = refl; made = w.made; over_small = w.over_small; more = more })
 

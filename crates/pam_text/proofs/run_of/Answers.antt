@@ -1,16 +1,21 @@
--- The run is what `take_while` counts. Assumes nothing.
-use mathlib.Core.Path.{◌∙◌}
-use Rattle.std.proofs.Common.{rules, tests}
-use Rattle.std.proofs.lemmas.Iterator.{YieldsList-from_slice}
-use Rattle.std.proofs.lemmas.Iterator.Consumers.{count_from_yields_List}
-use Rattle.std.proofs.lemmas.Iterator.Search.{YieldsList-from_take_while}
-use Rattle.std.proofs.lemmas.List.Folds.{length-prefix_len}
-use Rattle.pam_text.specs.Text.{is_of}
-use Rattle.pam_text.proofs.Texts.{run_is}
+-- The invariant: the run of the whole is i bytes and the run of what is left. Assumes nothing.
+use Rattle.pam_text.proofs.Texts.{run_first, run_turn, run_stop, run_done}
+use borrow.Author.Tests.{not-true, not-false}
+use native.Mathlib.Omega.{arith}
+use lib.ListN.{length}
+use mathlib.Core.Path.{◌≡◌, sym, ◌∙◌}
 use Rattle.pam_text.proofs.run_of.Goals as goal
+
+pub loop-i-init : goal.loop-i-init
+loop-i-init c = run_first _ _
+
+pub returns-then-not-is_of : goal.returns-then-not-is_of
+returns-then-not-is_of c = run_stop c.loop-i.invariant c.loop-i-test.true (sym c.is_of.ensures ∙ not-true _ c.if-not-is_of.true-raw)
+
+pub loop-i-preserved : goal.loop-i-preserved
+loop-i-preserved c = run_turn c.loop-i.invariant c.loop-i-test.true (sym c.is_of.ensures ∙ not-false _ c.if-not-is_of.false-raw)
 
 pub returns : goal.returns
 returns c =
-    let s = c.args.s.now in
-    let test = is_of c.args.class in
-    count_from_yields_List c.take_while.result _ c.count.ensures.ran (YieldsList-from_take_while _ test (YieldsList-from_slice s cc) c.take_while.ensures.closure c.take_while.ensures.done (λ x b q k. search (rules, tests))) ∙ length-prefix_len test s ∙ run_is c.args.class s
+    let all : c.loop-i.i ≡ length c.args.s.now = omega arith in
+    sym all ∙ run_done c.loop-i.invariant (omega arith)

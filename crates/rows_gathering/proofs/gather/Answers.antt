@@ -12,14 +12,14 @@ pub column_sums-requires : goal.column_sums-requires
 column_sums-requires c =
     let a = c.args in
     let p = read_at a.plain a.row.now a.alpha.place in
-    let next = next_of p c.requires.block_asks c.loop-k.invariant c.new-columns.ensures.0 c.new-columns.ensures.1 c.next-c.ensures in
+    let next = next_of p c.requires.block_asks c.loop-k.invariant c.new-columns.ensures.0 c.new-columns.ensures.1 c.next-c.ensures.stands in
     column_asks p c.requires.block_asks c.loop-k.invariant next c.loop-k-test.true
 
 pub loop-k-preserved : goal.loop-k-preserved
 loop-k-preserved c =
     let a = c.args in
     let p = read_at a.plain a.row.now a.alpha.place in
-    let next = next_of p c.requires.block_asks c.loop-k.invariant c.new-columns.ensures.0 c.new-columns.ensures.1 c.next-c.ensures in
+    let next = next_of p c.requires.block_asks c.loop-k.invariant c.new-columns.ensures.0 c.new-columns.ensures.1 c.next-c.ensures.stands in
     gathering_turn p c.requires.block_asks c.loop-k.invariant next c.loop-k-test.true c.column_sums.ensures c.put8.ensures
 
 pub returns-clause-pixels : goal.returns-clause-pixels

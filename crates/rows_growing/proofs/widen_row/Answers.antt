@@ -4,7 +4,7 @@ use native.Mathlib.Omega.{arith}
 use Rattle.std.proofs.lemmas.Result.{err_from_is_err_and}
 use Rattle.rows.specs.Inner.Import.{Bytes}
 use Rattle.rows.proofs.Importing.{row_asks, by_layout}
-use Rattle.rows_growing.proofs.GrownRows.{pixels_of}
+use Rattle.rows_growing.proofs.GrownRows.{pixels_of, grown_as}
 use Rattle.rows_growing.proofs.Widened.{widened, not_widened, turned_away}
 use Rattle.rows_growing.proofs.widen_row.Goals as goal
 
@@ -30,8 +30,8 @@ returns-then-crop_width-target_width c =
     let a = c.args in
     let goes = c.in_ok-check_import.ensures in
     let bytes : Bytes a.row.now = λ i. omega (arith, c.type_inv.row i) in
-    let count = pixels_of (row_asks a.layout a.«crop_width» a.«target_width» a.row.now a.half.now refl bytes goes) in
-    let written = by_layout a.layout a.«crop_width» a.«target_width» a.row.now a.half.now refl bytes goes _ (rw count at c.grow.ensures) in
+    let asks = row_asks a.layout a.«crop_width» a.«target_width» a.row.now a.half.now refl bytes goes in
+    let written = by_layout a.layout a.«crop_width» a.«target_width» a.row.now a.half.now refl bytes goes _ (grown_as refl asks _ c.grow.ensures) in
     record {
       number = goes;
       half = written ∙ sym (widened a.layout a.«crop_width» a.«target_width» a.row.now a.half.now c.if-crop_width-target_width.true);

@@ -6,7 +6,7 @@ use Rattle.arithmetic.specs.Sum.{sum}
 use Rattle.rows.specs.Tones.{toned_at}
 use Rattle.rows.specs.declared.Quad.{Quad}
 use Rattle.rows_pixels.proofs.Blocks.{apart_of, row_in, place_is}
-use Rattle.rows_pixels.proofs.Standing.{standing_first, standing_next, standing_asks, standing_total, standing_last, standing_more}
+use Rattle.rows_pixels.proofs.Standing.{standing_first, next_stands, standing_asks, standing_total, standing_last, standing_more}
 use Rattle.rows_pixels.proofs.shrink_pixels.Goals as goal
 
 -- the sums of `count` pixels from x on
@@ -20,13 +20,13 @@ loop-j-init c = standing_first (row_in c.args.layout c.places-p.ensures c.requir
 pub one-last-requires : goal.one-last-requires
 one-last-requires c =
     let a = row_in c.args.layout c.places-p.ensures c.requires.row_asks in
-    let next = standing_next a c.requires.m_le_n c.loop-j.invariant c.new-columns.ensures.0 c.new-columns.ensures.1 c.next-c.ensures in
+    let next = next_stands a c.requires.m_le_n c.loop-j.invariant c.new-columns.ensures.0 c.new-columns.ensures.1 c.next-c.ensures.stands in
     standing_last a c.requires.m_le_n c.loop-j.invariant next.1 c.loop-j-test.true
 
 pub total_of-total-requires : goal.total_of-total-requires
 total_of-total-requires c =
     let a = row_in c.args.layout c.places-p.ensures c.requires.row_asks in
-    let next = standing_next a c.requires.m_le_n c.loop-j.invariant c.new-columns.ensures.0 c.new-columns.ensures.1 c.next-c.ensures in
+    let next = next_stands a c.requires.m_le_n c.loop-j.invariant c.new-columns.ensures.0 c.new-columns.ensures.1 c.next-c.ensures.stands in
     rw next.0 (standing_asks a c.requires.m_le_n c.loop-j.invariant next.1 c.loop-j-test.true)
 
 pub loop-j-preserved : goal.loop-j-preserved
@@ -36,7 +36,7 @@ loop-j-preserved c =
     let a = row_in layout told c.requires.row_asks in
     let shrinks = c.requires.m_le_n in
     let v = c.loop-j.invariant in
-    let next = standing_next a shrinks v c.new-columns.ensures.0 c.new-columns.ensures.1 c.next-c.ensures in
+    let next = next_stands a shrinks v c.new-columns.ensures.0 c.new-columns.ensures.1 c.next-c.ensures.stands in
     let below = c.loop-j-test.true in
     let place = place_is layout told c.of-alpha.ensures in
     let l = rw place at c.one-last.ensures in

@@ -119,7 +119,7 @@ loop-j-init g c = first c.requires.row_asks refl
 pub put_column-requires : goal.put_column-requires
 put_column-requires g c =
     let asks = c.requires.row_asks in
-    let next = next_stands asks c.requires.m_le_n c.loop-j.invariant c.new-sharing.ensures c.next-c.ensures in
+    let next = next_stands asks c.requires.m_le_n c.loop-j.invariant c.new-sharing.ensures c.next-c.ensures.stands in
     (omega (arith, asks.lane_count.most), put-asks asks c.requires.m_le_n c.loop-j.invariant next c.loop-j-test.true)
 
 pub loop-j-preserved : goal.loop-j-preserved
@@ -128,7 +128,7 @@ loop-j-preserved g c =
     let by_width = c.requires.m_le_n in
     let inv = c.loop-j.invariant in
     let more = c.loop-j-test.true in
-    turn asks by_width inv (next_stands asks by_width inv c.new-sharing.ensures c.next-c.ensures) more _ c.frac-scale.ensures _ _ c.put_column.ensures.half c.put_column.ensures.carry
+    turn asks by_width inv (next_stands asks by_width inv c.new-sharing.ensures c.next-c.ensures.stands) more _ c.frac-scale.ensures _ _ c.put_column.ensures.half c.put_column.ensures.carry
 
 pub returns : goal.returns
 returns g c = done c.requires.row_asks c.requires.m_le_n c.loop-j.invariant c.loop-j-test.false

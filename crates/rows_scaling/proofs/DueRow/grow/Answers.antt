@@ -1,4 +1,4 @@
--- `grow_row` meets its contract: d is in its range, so it fits; each half lies in the work rows, and the loops' b and factor are SCOPE's. Assumes nothing.
+-- `grow` meets its contract: d is in its range, so it fits; each half lies in the work rows, and the loops' b and factor are SCOPE's. Assumes nothing.
 use Rattle.rows_scaling.proofs.Factors.{factor_half, grow_out, level_out}
 use Rattle.rows_scaling.proofs.RestRange.{up_some, up_low, up_high}
 use Rattle.rows_scaling.specs.Scaling.{scale_in}

@@ -1,4 +1,4 @@
--- `shrink_row` meets its contract: the loops' step and ratio are SCOPE's factors. Assumes nothing.
+-- `shrink` meets its contract: the loops' step and ratio are SCOPE's factors. Assumes nothing.
 use Rattle.std.proofs.Common.{sym, ◌∙◌, arith}
 use Rattle.rows_scaling.proofs.Factors.{ratio_word, ratio_below, shrink_out, shrink_work, take_out_lem, take_work_lem}
 use Rattle.rows_scaling.specs.Scaling.{scale_in}
